@@ -8,6 +8,7 @@ use native.Mathlib.Decide.{dec_le}
 use native.Mathlib.Nat.{lt_of_not-le}
 use native.Mathlib.Omega.{arith}
 use borrow.Author.Tests.{eqb-true, ltb-true, ltb-false, lt-ltb, le-ltb, eq-eqb, ne_eqb}
+use mir.Val.{bool_byte}
 use lib.Dec.{eqb, ltb}
 use lib.ListN.{get_or, length}
 use Rattle.codec.specs.Bytes.{word_at}
@@ -15,33 +16,31 @@ use Rattle.codec.specs.Layouts.{least_of, layout_at, create_at, create_of, statu
 use Rattle.codec.specs.Submessages.{kind_of, code_of, id_of}
 use Rattle.codec.specs.Reading.{payload_at, read_at, Item, Items, items, stopped, before, onward, items_at}
 use Rattle.codec.specs.declared.layouts.Cursor.{Cursor}
-use Rattle.codec.specs.declared.layouts.Parsed.{Parsed}
-use Rattle.codec.specs.declared.layouts.Parsed.TheVariants as parsed
 use Rattle.codec.specs.declared.layouts.Span.{Span}
-use Rattle.codec.specs.declared.submessages.CodeRead.{CodeRead}
-use Rattle.codec.specs.declared.submessages.CodeRead.TheVariants as code-read
-use Rattle.codec.specs.declared.submessages.KindRead.{KindRead}
-use Rattle.codec.specs.declared.submessages.KindRead.TheVariants as kind-read
 use Rattle.codec.specs.declared.submessages.Submessage.{Submessage}
 use Rattle.codec.proofs.Either.{either}
 use Rattle.codec.proofs.reading.Laws.{payload_placed, read_payload, read_short, items_more}
 use Rattle.agent.specs.Host.{one_of, headers_in, headers_at, ids_at, asks_in, unbound}
 use Rattle.agent.specs.declared.judge.Start.{Start}
+use Rattle.std.specs.Prelude.{Err, Ok, Result}
+use Rattle.codec.specs.declared.submessages.ObjectKind.{ObjectKind}
+use Rattle.codec.specs.declared.refusals.Refusal.{Refusal}
+use Rattle.codec.specs.declared.submessages.StatusCode.{StatusCode}
 
 -- ---- what the header of a submessage that is read says: its id is the submessage's own, and the next one begins behind its length
 
-abbrev Own : ℕ → Parsed → Type 0
-Own id (parsed.Sub m x c) = id ≡ id_of m
-Own id (parsed.Refused r) = Unit
+abbrev Own : ℕ → Result (Submessage × Span × Cursor) Refusal → Type 0
+Own id (Ok (m, x, c)) = id ≡ id_of m
+Own id (Err r) = Unit
 
 module _ (s : List ℕ) (id p len : ℕ) where
-  own_create : id ≡ 1 → (k : KindRead) → Own id (create_of s p len k)
-  own_create e (kind-read.Kind k) = e
-  own_create e (kind-read.Refused r) = tt
+  own_create : id ≡ 1 → (k : Result ObjectKind Refusal) → Own id (create_of s p len k)
+  own_create e (Ok k) = e
+  own_create e (Err r) = tt
 
-  own_status : id ≡ 5 → (k : CodeRead) → Own id (status_of s p len k)
-  own_status e (code-read.Code k) = e
-  own_status e (code-read.Refused r) = tt
+  own_status : id ≡ 5 → (k : Result StatusCode Refusal) → Own id (status_of s p len k)
+  own_status e (Ok k) = e
+  own_status e (Err r) = tt
 
   own_layout : Own id (layout_at s id p len)
   unfolding layout_at create_at status_at
@@ -71,13 +70,13 @@ pub record Says (s : List ℕ) (at : ℕ) (m : Submessage) (c : Cursor) : Type 0
   pub next : c.at ≡ at + 4 + word_at s (at + 2)
   pub within : c.at ≤ length s
 
-pub read_says_lem : (s : List ℕ) (at : ℕ) (m : Submessage) (x : Span) (c : Cursor) → read_at s at ≡ parsed.Sub m x c → Says s at m c
+pub read_says_lem : (s : List ℕ) (at : ℕ) (m : Submessage) (x : Span) (c : Cursor) → read_at s at ≡ Ok (m, x, c) → Says s at m c
 read_says_lem s at m x c e =
     let id = get_or s at 0 in
     let len = word_at s (at + 2) in
     elim (dec_le (at + 4) (length s)) [
       | yes h ↦
-          let laid : payload_at s id (at + 4) len ≡ parsed.Sub m x c = sym (read_payload s at id len h refl refl) ∙ e in
+          let laid : payload_at s id (at + 4) len ≡ Ok (m, x, c) = sym (read_payload s at id len h refl refl) ∙ e in
           let k = payload_placed s id (at + 4) len m x c laid in
           let fits = k.0 in
           let next = k.1.0 in
@@ -92,7 +91,7 @@ pub item_first : (x : Item) (i : Items) (ys : List Item) → before x i ≡ item
 item_first x (items zs) ys e = let p : x ∷ zs ≡ ys = cc in (zs, refl, sym (ap length p))
 item_first x (stopped r) ys e = let z : ◌≡◌ {A = ℕ} 0 1 = cc in absurd (omega arith)
 
-one_few : (id b : ℕ) → one_of id b ≤ 1
+pub one_few : (id b : ℕ) → one_of id b ≤ 1
 one_few id b = go (eqb b id)
   where
     go : (c : Bool) → cond c 1 0 ≤ 1
@@ -100,11 +99,8 @@ one_few id b = go (eqb b id)
     go false = omega arith
 
 -- the code's answer for one
-pub one_yes : (id b : ℕ) → b ≡ id → (1 ≡ one_of id b) × (1 ≤ 1)
-one_yes id b e = (sym (ap (λ (c : Bool). cond c 1 0) (eq-eqb b id e)), omega arith)
-
-pub one_no : (id b : ℕ) → (b ≡ id → ⊥) → (0 ≡ one_of id b) × (0 ≤ 1)
-one_no id b other = (sym (ap (λ (c : Bool). cond c 1 0) (ne_eqb b id other)), omega arith)
+pub one_byte : (id b n : ℕ) → n ≡ bool_byte (eqb b id) → n ≡ one_of id b
+one_byte id b n e = e ∙ elim (eqb b id) as (λ c. bool_byte c ≡ cond c 1 0) [ true ↦ refl | false ↦ refl ]
 
 -- where the next submessage begins
 abbrev pub next : List ℕ → ℕ → ℕ
@@ -145,7 +141,7 @@ module _ (one : ℕ → ℕ → ℕ) (none : ℕ) (d : List ℕ) where
       ∙ (in_more n at h ∙ ap (one at) (fuel n (length d - next d at) (next d at) (omega arith) (omega arith)))
 
   -- where a submessage is read, those from it on are it and those behind it
-  pub headers_read : (at : ℕ) (m : Submessage) (x : Span) (c : Cursor) → read_at d at ≡ parsed.Sub m x c → headers_at one none d at ≡ one at (headers_at one none d c.at)
+  pub headers_read : (at : ℕ) (m : Submessage) (x : Span) (c : Cursor) → read_at d at ≡ Ok (m, x, c) → headers_at one none d at ≡ one at (headers_at one none d c.at)
   headers_read at m x c e =
       let k = read_says_lem d at m x c e in
       let n = k.next in
@@ -161,7 +157,7 @@ module _ (id : ℕ) (d : List ℕ) where
   abbrev more : ℕ → ℕ → ℕ
   more at n = one_at at + n
 
-  pub ids_read : (at : ℕ) (m : Submessage) (x : Span) (c : Cursor) → read_at d at ≡ parsed.Sub m x c → ids_at id d at ≡ one_at at + ids_at id d c.at
+  pub ids_read : (at : ℕ) (m : Submessage) (x : Span) (c : Cursor) → read_at d at ≡ Ok (m, x, c) → ids_at id d at ≡ one_at at + ids_at id d c.at
   ids_read at m x c e = headers_read more 0 d at m x c e
 
   -- no more than submessages
@@ -173,14 +169,14 @@ module _ (id : ℕ) (d : List ℕ) where
       Rest : Type 0
       Rest = (p : ℕ) (zs : List Item) → items_at d p ≡ items zs → headers_in more 0 n d p ≤ length zs
 
-      by : (q : Parsed) → read_at d at ≡ q → onward q (items_at d) ≡ items ys → Rest → one_at at + headers_in more 0 n d (next d at) ≤ length ys
-      by (parsed.Sub m x c) e j rest =
+      by : (q : Result (Submessage × Span × Cursor) Refusal) → read_at d at ≡ q → onward q (items_at d) ≡ items ys → Rest → one_at at + headers_in more 0 n d (next d at) ≤ length ys
+      by (Ok (m, x, c)) e j rest =
           let k = item_first _ (items_at d c.at) ys j in
           let a = rest (next d at) k.0 (ap (items_at d) (sym (read_says_lem d at m x c e).next) ∙ k.1) in
           let b = one_few id (get_or d at 0) in
           let l = k.2 in
           omega (arith, a, b, l)
-      by (parsed.Refused x) e j rest = let z : ◌≡◌ {A = ℕ} 0 1 = cc in absurd (omega arith)
+      by (Err x) e j rest = let z : ◌≡◌ {A = ℕ} 0 1 = cc in absurd (omega arith)
 
       go : (b : Bool) → ltb (length d) (at + 4) ≡ b → Rest → headers_in more 0 (suc n) d at ≤ length ys
       go true e rest = let s = in_end more 0 d (suc n) at (ltb-true (length d) (at + 4) e) in omega (arith, s)

@@ -5,14 +5,18 @@ use mathlib.Core.Path.{◌≡◌, refl, sym, ap, ◌∙◌}
 use mathlib.Core.Bool.{Bool, true, false, cond}
 use mathlib.Core.List.{List, [], ◌∷◌}
 use native.Mathlib.Omega.{arith}
-use borrow.Author.Tests.{eqb-true, eqb-false, lt-ltb, le-ltb}
-use lib.Dec.{eqb}
-use lib.ListN.{length, set, get_or, take, replicate, length-set, length-replicate}
-use lib.Seq.{get_or-set_same, get_or-set_other}
-use Rattle.codec.specs.Bytes.{put_bytes}
-use Rattle.codec.proofs.bytes.Laws.{put_fits, length_put}
+use borrow.Author.Tests.{eqb-true, eqb-false, ltb-true, ltb-false, lt-ltb, le-ltb}
+use lib.Dec.{eqb, ltb}
+use lib.ListN.{length, set, get_or, replicate, length-set, length-replicate}
+use lib.Seq.{get_or-set_same, get_or-set_other, take-append_seam}
+use Rattle.std.proofs.Common.{take, drop, ◌++◌, append_assoc, length-drop}
+use Rattle.std.proofs.lemmas.List.{drop-drop, get_or-drop, get_or-take, length-take, length-take-le, take-append-drop}
+use Rattle.codec.specs.Bytes.{put_at, put_bytes}
+use Rattle.codec.proofs.bytes.Laws.{put_fits, put_short, length_put}
 use Rattle.streams.proofs.Slots.{read_same}
-use Rattle.agent.specs.Dry.{stream_spot, copied, restored}
+use Rattle.sessions.specs.Sending.{buffer_in}
+use Rattle.sessions.specs.declared.sending.Stretch.{Stretch}
+use Rattle.agent.specs.Dry.{stream_spot, object_spot, copied, restored, kept_in, back_in}
 
 -- ---- which row of the streams is copied
 
@@ -130,17 +134,6 @@ same_list none [] (y ∷ ys) e f = let z : ⊥ = omega (arith, e) in absurd z
 same_list none (x ∷ xs) [] e f = let z : ⊥ = omega (arith, e) in absurd z
 same_list none (x ∷ xs) (y ∷ ys) e f = λ i. f 0 (omega arith) i ∷ same_list none xs ys (omega (arith, e)) (λ p l. f (suc p) (omega (arith, l))) i
 
--- ---- a local array has room for all the copies
-
-pub copies_long : {A : Type 0} (n : ℕ) (a : A) → n ≤ length (replicate n a)
-copies_long n a = let e = length-replicate n a in omega (arith, e)
-
-pub copied_long : {A B : Type 0} (copy : A → B) (none : A) (spot : ℕ → ℕ) (from : List A) (n : ℕ) (b : B) → n ≤ length (copied copy none spot n from (replicate n b))
-copied_long copy none spot from n b =
-    let e = copied_length copy none spot from (replicate n b) n in
-    let f = length-replicate n b in
-    omega (arith, e, f)
-
 -- ---- and so what was copied, put back, gives the store again
 
 module _ {A B : Type 0} (copy : A → B) (back : B → A) (again : (x : A) → back (copy x) ≡ x) (none : A) (past : B) (spot : ℕ → ℕ) (from : List A) (blank : List B) where
@@ -177,6 +170,86 @@ module _ {A B : Type 0} (copy : A → B) (back : B → A) (again : (x : A) → b
 
       each : (p : ℕ) → p < length from → get_or (restored back past spot n (copied copy none spot n from blank) to) p none ≡ get_or from p none
       each p l = back_at n n to p (omega arith) w l k.long ∙ either p (is_spot spot n p) refl
+
+-- ---- a stretch that was kept, put back
+
+module _ {A : Type 0} (line store after : List A) (first n : ℕ) (room : first + n ≤ length store) where
+  abbrev part : List A
+  part = take n (drop first store)
+
+  pub part_long : length (take n (drop first store)) ≡ n
+  part_long = length-take-le n (drop first store) (let l = length-drop first store in omega (arith, l, room))
+
+  pub kept_part : take n (kept_in line store first n) ≡ take n (drop first store)
+  kept_part = ap (λ (m : ℕ). take m (part ++ drop n line)) (sym part_long) ∙ take-append_seam part (drop n line)
+
+  pub stretch_back : take first after ≡ take first store → drop (first + n) after ≡ drop (first + n) store → back_in after (kept_in line store first n) first n ≡ store
+  stretch_back front rest =
+      let both : back_in after (kept_in line store first n) first n ≡ take first store ++ (part ++ drop (first + n) store) = λ i. front i ++ (kept_part i ++ rest i) in
+      both
+      ∙ (ap (λ (l : List A). take first store ++ (part ++ l)) (sym (drop-drop n first store))
+      ∙ (ap (λ (l : List A). take first store ++ l) (take-append-drop n (drop first store)) ∙ take-append-drop first store))
+
+-- step by step: kept, changed, put back
+pub again_by : {A : Type 0} (line store after kept left back : List A) (first n : ℕ)
+    → kept ≡ kept_in line store first n → left ≡ after → back ≡ back_in left kept first n → back_in after (kept_in line store first n) first n ≡ store → back ≡ store
+again_by line store after kept left back first n k l b own = b ∙ (ap (λ (s : List _). back_in s kept first n) l ∙ (ap (λ (s : List _). back_in after s first n) k ∙ own))
+
+-- of a store of which nothing but the stretch has changed
+module _ {A : Type 0} (none : A) (first n : ℕ) (from to : List A) (k : KeptBut none (object_spot first) n from to) where
+  off_spot : (m p : ℕ) → ((j : ℕ) → j < m → first + j ≡ p → ⊥) → is_spot (object_spot first) m p ≡ false
+  unfolding is_spot
+  off_spot zero p f = refl
+  off_spot (suc m) p f = go (off_spot m p (λ j h. f j (omega (arith, h)))) (eqb (first + m) p) refl
+    where
+      go : is_spot (object_spot first) m p ≡ false → (b : Bool) → eqb (first + m) p ≡ b → cond b true (is_spot (object_spot first) m p) ≡ false
+      go before true e = absurd (f m (omega arith) (eqb-true (first + m) p e))
+      go before false e = before
+
+  front_same : take first to ≡ take first from
+  front_same = same_list none (take first to) (take first from) (let u = length-take first to in let v = length-take first from in let l = k.long in omega (arith, u, v, l)) each
+    where
+      each : (p : ℕ) → p < length (take first from) → get_or (take first to) p none ≡ get_or (take first from) p none
+      each p l =
+          let v = length-take first from in
+          let h : p < first = omega (arith, v, l) in
+          get_or-take first to p none h ∙ (k.elsewhere p (off_spot n p (λ j q e. omega (arith, e, h))) ∙ sym (get_or-take first from p none h))
+
+  rest_same : drop (first + n) to ≡ drop (first + n) from
+  rest_same = same_list none (drop (first + n) to) (drop (first + n) from) (let u = length-drop (first + n) to in let v = length-drop (first + n) from in let l = k.long in omega (arith, u, v, l)) each
+    where
+      each : (p : ℕ) → p < length (drop (first + n) from) → get_or (drop (first + n) to) p none ≡ get_or (drop (first + n) from) p none
+      each p l =
+          get_or-drop (first + n) to p none
+          ∙ (k.elsewhere (first + n + p) (off_spot n (first + n + p) (λ j q e. omega (arith, e, q))) ∙ sym (get_or-drop (first + n) from p none))
+
+  pub kept_back : (line : List A) → first + n ≤ length from → back_in to (kept_in line from first n) first n ≡ from
+  kept_back line room = stretch_back line from to first n room front_same rest_same
+
+-- and of bytes, where their own put into the store give it again
+module _ (store after : List ℕ) (b : Stretch) (low : b.start ≤ b.end) (within : b.end ≤ length store) (again : put_bytes after b.start (buffer_in store b) ≡ store) where
+  pub bytes_long : length after ≡ length store
+  bytes_long = go (ltb (length after) (b.start + length (buffer_in store b))) refl
+    where
+      go : (c : Bool) → ltb (length after) (b.start + length (buffer_in store b)) ≡ c → length after ≡ length store
+      go true e = ap length ((put_short after b.start (buffer_in store b) (ltb-true (length after) (b.start + length (buffer_in store b)) e)).1 ∙ again)
+      go false e =
+          let fits = ltb-false (length after) (b.start + length (buffer_in store b)) e in
+          sym (length_put after b.start (buffer_in store b) fits) ∙ ap length ((put_fits after b.start (buffer_in store b) fits).1 ∙ again)
+
+  pub bytes_back : (line : List ℕ) → back_in after (kept_in line store b.start (b.end - b.start)) b.start (b.end - b.start) ≡ store
+  unfolding buffer_in put_at
+  bytes_back line =
+      let n = b.end - b.start in
+      let bytes = take n (drop b.start store) in
+      let room : b.start + n ≤ length store = omega (arith, low, within) in
+      let many = part_long line store after b.start n room in
+      let long = bytes_long in
+      let inner = kept_part line store after b.start n room in
+      ap (λ (l : List ℕ). take b.start after ++ (l ++ drop (b.start + n) after)) inner
+      ∙ (ap (λ (m : ℕ). take b.start after ++ (bytes ++ drop (b.start + m) after)) (sym many)
+      ∙ (sym (append_assoc (take b.start after) bytes (drop (b.start + length bytes) after))
+      ∙ ((put_fits after b.start (buffer_in store b) (omega (arith, many, long, room))).1 ∙ again)))
 
 -- ---- bytes at the start of a line of m
 

@@ -1,8 +1,8 @@
 -- While a CREATE's call is open, its session has room for the object: "CREATE of a 33rd number answers ERR_RESOURCES before any lookup or call."
+use Rattle.std.specs.Prelude.{Option, None, Some}
 use mathlib.Core.Path.{◌≡◌, refl, sym, subst}
 use Prim.Native.Nat.{ℕ}
 use mathlib.Core.Bool.{Bool, false, cond}
-use mathlib.Core.Option.{Option, none, some}
 use mathlib.Core.List.{List, [], ◌∷◌}
 use borrow.Author.Tests.{eq-eqb}
 use Rattle.isolation.specs.Rules.{done, calls, Sub, opens, names}
@@ -26,8 +26,8 @@ RoomFor deleting number l = Unit {0}
 
 -- if it is still live
 abbrev pub RoomAt : Task → ℕ → Option Local → Type 0
-RoomAt task number none = Unit {0}
-RoomAt task number (some l) = RoomFor task number l
+RoomAt task number None = Unit {0}
+RoomAt task number (Some l) = RoomFor task number l
 
 -- ---- one submessage, or an answer, with the rebuilt ones behind it
 
@@ -65,8 +65,8 @@ resumed_room l p a =
 -- ---- a run that hands out a call
 
 abbrev pub StopRoom : Option (Call × Open) → Tables → Type 0
-StopRoom none t = Unit {0}
-StopRoom (some x) t = RoomAt x.1.pending.asked.task x.1.pending.asked.number (t.at x.1.session)
+StopRoom None t = Unit {0}
+StopRoom (Some x) t = RoomAt x.1.pending.asked.task x.1.pending.asked.number (t.at x.1.session)
 
 abbrev RanRoom : Ran → Type 0
 RanRoom r = StopRoom r.stop r.tables
@@ -74,11 +74,11 @@ RanRoom r = StopRoom r.stop r.tables
 module _ (id : ℕ) (rest : List (Sub Opening In)) (t : Tables) (go : Tables → Ran) (more : (t' : Tables) → RanRoom (go t')) where
   acts : (m : Working) → WorkRoom m → RanRoom (act id rest t m go)
   acts (done l bs) e = more (keep id l t)
-  acts (calls l bs c p) e = subst (λ (b : Bool). RoomAt p.asked.task p.asked.number (cond b (some l) (t.at id))) (sym (eq-eqb id id refl)) e.1
+  acts (calls l bs c p) e = subst (λ (b : Bool). RoomAt p.asked.task p.asked.number (cond b (Some l) (t.at id))) (sym (eq-eqb id id refl)) e.1
 
   delivers : (x : Option Local) (rule : Local → Working) → ((l : Local) → WorkRoom (rule l)) → RanRoom (deliver id rest t x rule go)
-  delivers none rule e = more t
-  delivers (some l) rule e = acts (rule l) (e l)
+  delivers None rule e = more t
+  delivers (Some l) rule e = acts (rule l) (e l)
 
 pub stop_room : (max id : ℕ) (ss : List (Sub Opening In)) (t : Tables) → StopRoom (run max id ss t).stop (run max id ss t).tables
 unfolding run

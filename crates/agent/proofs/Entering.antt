@@ -6,14 +6,11 @@ use mathlib.Core.List.{List, [], ◌++◌, append_assoc}
 use native.Mathlib.Omega.{arith}
 use lib.ListN.{length}
 use Rattle.codec.specs.Reading.{read_at, part_of}
-use Rattle.codec.specs.declared.rebuilt.Rebuilt.{Rebuilt}
 use Rattle.sessions.specs.Table.{named_of, touched_rows}
 use Rattle.sessions.specs.Fragments.{takes, gathered}
 use Rattle.sessions.specs.Calls.{with_sessions, gather_tables}
 use Rattle.sessions.specs.View.{Tables}
 use Rattle.sessions.specs.declared.fragments.Gathered.{Gathered}
-use Rattle.sessions.specs.declared.table.Named.{Named}
-use Rattle.sessions.specs.declared.table.Named.TheVariants as named
 use Rattle.sessions.proofs.ViewFragments.{gather_nothing}
 use Rattle.moves.specs.declared.handle.Opening.{Opening}
 use Rattle.moves.specs.declared.handle.Opening.TheVariants.{Client, Fragment, Other, Unread}
@@ -29,19 +26,21 @@ use Rattle.agent.specs.declared.turn.Taken.{Taken}
 use Rattle.agent.proofs.Turns.{goes_within, turns}
 use Rattle.agent.proofs.Running.{run_more}
 use Rattle.agent.proofs.Written.{no_bytes}
+use Rattle.std.specs.Prelude.{Err, Ok, Result}
+use Rattle.codec.specs.declared.refusals.Refusal.{Refusal}
 
 -- ---- a submessage, before the session is live
 
-not_live_takes : (s : List (List ℕ)) (id nr total len : ℕ) (w : Named) → named_of s id ≡ w → is_live w ≡ false → takes s id nr total len ≡ false
-not_live_takes s id nr total len named.Live e q = let z : ◌≡◌ {A = ℕ} 0 1 = ap (λ (b : Bool). cond b 1 0) (sym q) in absurd (omega (arith, z))
-not_live_takes s id nr total len named.NotLive e q = rw e
-not_live_takes s id nr total len (named.Refused r) e q = rw e
+not_live_takes : (s : List (List ℕ)) (id nr total len : ℕ) (w : Result Bool Refusal) → named_of s id ≡ w → is_live w ≡ false → takes s id nr total len ≡ false
+not_live_takes s id nr total len (Ok true) e q = let z : ◌≡◌ {A = ℕ} 0 1 = ap (λ (b : Bool). cond b 1 0) (sym q) in absurd (omega (arith, z))
+not_live_takes s id nr total len (Ok false) e q = rw e
+not_live_takes s id nr total len (Err r) e q = rw e
 
-not_live_touched : (s : List (List ℕ)) (id time : ℕ) (w : Named) → named_of s id ≡ w → is_live w ≡ false → touched_rows s id time ≡ s
+not_live_touched : (s : List (List ℕ)) (id time : ℕ) (w : Result Bool Refusal) → named_of s id ≡ w → is_live w ≡ false → touched_rows s id time ≡ s
 unfolding touched_rows
-not_live_touched s id time named.Live e q = let z : ◌≡◌ {A = ℕ} 0 1 = ap (λ (b : Bool). cond b 1 0) (sym q) in absurd (omega (arith, z))
-not_live_touched s id time named.NotLive e q = rw e
-not_live_touched s id time (named.Refused r) e q = rw e
+not_live_touched s id time (Ok true) e q = let z : ◌≡◌ {A = ℕ} 0 1 = ap (λ (b : Bool). cond b 1 0) (sym q) in absurd (omega (arith, z))
+not_live_touched s id time (Ok false) e q = rw e
+not_live_touched s id time (Err r) e q = rw e
 
 module _ (f : Frame) (d : List ℕ) where
   abbrev its : List (List ℕ) → Bool
@@ -49,7 +48,7 @@ module _ (f : Frame) (d : List ℕ) where
 
   -- no bytes at all are refused
   none_whole : (t : Tables) (r : Ran) (at : ℕ) → whole_turned f t 0 r at ≡ record { ran = passed r at; tables = t; replies = [] }
-  none_whole t r at = ap (λ (y : Rebuilt). with_acted t (left_by y f t.held (rebuilt_part t.rebuilt 0) 0 r at (rows_of t))) (no_bytes t.rebuilt)
+  none_whole t r at = ap (λ (y : Result ℕ Refusal). with_acted t (left_by y f t.held (rebuilt_part t.rebuilt 0) 0 r at (rows_of t))) (no_bytes t.rebuilt)
 
   fragment_idle : (t : Tables) (r : Ran) (x : Taken) → its t.sessions ≡ false → fragment_turned f t d r x ≡ record { ran = passed r x.at; tables = t; replies = [] }
   unfolding fragment_turned

@@ -1,9 +1,9 @@
 -- W6 over the rules of one session: nothing but a FRAGMENT within the limits changes the store, and a payload's fragments rebuild it.
+use Rattle.std.specs.Prelude.{Option, None, Some}
 use Prim.Native.Nat.{ℕ, zero, suc, ◌+◌, ◌-◌, ◌*◌, ◌/◌, ◌<◌, ◌≤◌}
 use mathlib.Core.Path.{◌≡◌, refl, sym, ap, ◌∙◌}
 use mathlib.Core.Logic.{◌≢◌, ◌⊎◌, inl, inr, ⊎_elim}
 use mathlib.Core.Bool.{Bool, true, false, cond, or-true, or-false}
-use mathlib.Core.Option.{Option, none, some}
 use mathlib.Core.List.{List, [], ◌∷◌, ◌++◌}
 use native.Mathlib.Nat.{div-lt_iff_lt-mul}
 use native.Mathlib.Omega.{arith}
@@ -88,7 +88,7 @@ unfolding onto
 only_touched l moment stream p body e =
     let i = in_of moment stream (Fragment p) body in
     let slots = slots_with l.store p.fragment_nr p.total_fragments body in
-    ap (λ (b : Bool). onto (brought_by i (cond b (whole_of slots) none)) (done (with_store (touched moment.time l) (cond b (store_behind p.total_fragments slots (whole_of slots)) l.store)) [])) e
+    ap (λ (b : Bool). onto (brought_by i (cond b (whole_of slots) None)) (done (with_store (touched moment.time l) (cond b (store_behind p.total_fragments slots (whole_of slots)) l.store)) [])) e
 
 pub resumed_store : (l : Local) (p : Pending) (a : Answer) → (leaves (resumed l p a)).store ≡ l.store
 resumed_store l p a = onto_store p.left (on_answer l p.asked a) ∙ answer_store l p.asked a
@@ -123,17 +123,17 @@ slots_set n (suc k) (b ∷ bs) nrs at e h = rw (came_else n at nrs (λ z. omega 
 -- ---- the whole
 
 -- every number has come
-whole_all : (n : ℕ) (bs : List (List ℕ)) (nrs : List ℕ) → ((k : ℕ) → n ≤ k → k < n + length bs → came k nrs ≡ true) → whole_of (slots_from n bs nrs) ≡ some (joined bs)
+whole_all : (n : ℕ) (bs : List (List ℕ)) (nrs : List ℕ) → ((k : ℕ) → n ≤ k → k < n + length bs → came k nrs ≡ true) → whole_of (slots_from n bs nrs) ≡ Some (joined bs)
 unfolding joined
 whole_all n [] nrs all = refl
 whole_all n (b ∷ bs) nrs all = rw (all n (omega arith) (omega arith), whole_all (suc n) bs nrs (λ k h h'. all k (omega arith) (omega arith)))
 
 -- one hasn't
-none_behind : (b : Bool) (body : List ℕ) (more : List Slot) → whole_of more ≡ none → whole_of (cond b (holds body) free ∷ more) ≡ none
+none_behind : (b : Bool) (body : List ℕ) (more : List Slot) → whole_of more ≡ None → whole_of (cond b (holds body) free ∷ more) ≡ None
 none_behind true body more e = rw e
 none_behind false body more e = refl
 
-whole_missing : (n k : ℕ) (bs : List (List ℕ)) (nrs : List ℕ) (at : ℕ) → n + k ≡ at → k < length bs → came at nrs ≡ false → whole_of (slots_from n bs nrs) ≡ none
+whole_missing : (n k : ℕ) (bs : List (List ℕ)) (nrs : List ℕ) (at : ℕ) → n + k ≡ at → k < length bs → came at nrs ≡ false → whole_of (slots_from n bs nrs) ≡ None
 whole_missing n zero [] nrs at e h gone = absurd (omega arith)
 whole_missing n zero (b ∷ bs) nrs at e h gone = let z : at ≡ n = omega arith in rw (rw z at gone)
 whole_missing n (suc k) [] nrs at e h gone = absurd (omega arith)
@@ -210,10 +210,10 @@ module _ (bs : List (List ℕ)) (w : Within bs) (st : FragmentStore) (fresh : Fr
       waits_now : Missing (length bs) now → handle l (fragment_of bs k moment stream) ≡ done (with_store (touched moment.time l) (kept_after bs st now)) []
       unfolding onto
       waits_now m =
-          let c : Comes none = rw (whole_missing 0 m.0 bs now m.0 (omega arith) m.1 m.2) at comes_now in
+          let c : Comes None = rw (whole_missing 0 m.0 bs now m.0 (omega arith) m.1 m.2) at comes_now in
           c ∙ ap (λ (s : FragmentStore). done (with_store (touched moment.time l) s) []) (sym (kept_more nrs k))
 
-      takes_now : AllCame (length bs) now → Comes (some (joined bs))
+      takes_now : AllCame (length bs) now → Comes (Some (joined bs))
       takes_now all = rw (whole_all 0 bs now (λ j h h'. all j (omega arith))) at comes_now
 
   -- with what a session's store is, all of the promise

@@ -13,8 +13,6 @@ use lib.Seq.{set_out, length-take-le, take-append_seam, drop-append_seam, get_or
 use Rattle.codec.specs.Bytes.{put_bytes}
 use Rattle.codec.specs.Reading.{read_at, part_of}
 use Rattle.codec.specs.Rebuilt.{rebuilt_of}
-use Rattle.codec.specs.declared.rebuilt.Rebuilt.{Rebuilt}
-use Rattle.codec.specs.declared.rebuilt.Rebuilt.TheVariants as rebuilt
 use Rattle.codec.specs.declared.refusals.Refusal.TheVariants.{OverLimit, SessionFull}
 use Rattle.codec.specs.declared.submessages.AcknackPayload.{AcknackPayload}
 use Rattle.codec.specs.declared.submessages.ObjectKind.{ObjectKind}
@@ -23,8 +21,6 @@ use Rattle.codec.specs.declared.submessages.ObjectNumber.{ObjectNumber}
 use Rattle.streams.specs.Places.{first_from}
 use Rattle.streams.specs.Sent.{alloc_of, record_of}
 use Rattle.streams.specs.State.{new_stream}
-use Rattle.streams.specs.declared.sent.Slot.{Slot}
-use Rattle.streams.specs.declared.sent.Slot.TheVariants as slot
 use Rattle.streams.specs.declared.state.StreamState.{StreamState}
 use Rattle.sessions.specs.Table.{row_of, named_of, table_fits, is_free, keep_session, kept_rows, new_session, touched_session, session_at, touched_rows, got_of}
 use Rattle.sessions.specs.Opening.{after, live_of, free_from, free_of, open_fits, taken_as, chosen_of, created_of, free_slot}
@@ -42,16 +38,10 @@ use Rattle.sessions.specs.View.{Tables}
 use Rattle.sessions.specs.declared.fragments.Gathered.{Gathered}
 use Rattle.sessions.specs.declared.fragments.Gathered.TheVariants as gathers
 use Rattle.sessions.specs.declared.objects.Object.{Object}
-use Rattle.sessions.specs.declared.objects.ObjectHandle.{ObjectHandle}
-use Rattle.sessions.specs.declared.objects.ObjectHandle.TheVariants.{Bridged, Implicit}
 use Rattle.sessions.specs.declared.objects.Taken.{Taken as Removed}
 use Rattle.sessions.specs.declared.objects.Taken.TheVariants as removed
-use Rattle.sessions.specs.declared.objects.Place.{Place}
-use Rattle.sessions.specs.declared.objects.Place.TheVariants.{At, Nowhere}
 use Rattle.sessions.specs.declared.objects.Stored.{Stored}
 use Rattle.sessions.specs.declared.objects.Stored.TheVariants as stored
-use Rattle.sessions.specs.declared.opening.Created.{Created}
-use Rattle.sessions.specs.declared.opening.Created.TheVariants as created
 use Rattle.sessions.specs.declared.room.Room.{Room}
 use Rattle.sessions.specs.declared.room.Room.TheVariants as room
 use Rattle.sessions.specs.declared.sending.Stretch.{Stretch}
@@ -59,10 +49,6 @@ use Rattle.sessions.specs.declared.session_streams.StreamNamed.{StreamNamed}
 use Rattle.sessions.specs.declared.session_streams.StreamNamed.TheVariants as named-stream
 use Rattle.sessions.specs.declared.session_streams.StreamRead.{StreamRead}
 use Rattle.sessions.specs.declared.table.ClientSession.{ClientSession}
-use Rattle.sessions.specs.declared.table.Got.{Got}
-use Rattle.sessions.specs.declared.table.Got.TheVariants as got
-use Rattle.sessions.specs.declared.table.Named.{Named}
-use Rattle.sessions.specs.declared.table.Named.TheVariants as named
 use Rattle.sessions.proofs.table.Laws.{live_fits}
 use Rattle.sessions.proofs.sending.Laws.{buffer_length}
 use Rattle.sessions.proofs.Buffers.{with_same, put_back as put-buffer-back}
@@ -82,15 +68,11 @@ use Rattle.agent.specs.Legs.{entered}
 use Rattle.moves.specs.Answers.{keeps_of, says_of}
 use Rattle.agent.specs.Answered.{answered_sessions, answered_streams, answered_objects, answered_held}
 use Rattle.agent.specs.Host.{begun_by, begun_bytes, begun_sessions, begun_streams, begun_objects, begun_held, rows_begun, held_begun, first_ran, resumed_acted, resumed, performed}
-use Rattle.agent.specs.Dry.{session_copy, session_back, no_session, stream_copy, stream_back, no_stream, same, session_spot, stream_spot, object_spot, copied, restored, buffer_copy, buffer_back, rebuilt_place}
-use Rattle.moves.specs.declared.answers.Keeps.{Keeps}
-use Rattle.moves.specs.declared.answers.Keeps.TheVariants as keeps
+use Rattle.agent.specs.Dry.{same, session_spot, stream_spot, object_spot, copied, restored, kept_in, back_in, rebuilt_place}
 use Rattle.moves.specs.declared.answers.Says.{Says}
 use Rattle.moves.specs.declared.answers.Says.TheVariants as says
 use Rattle.moves.specs.declared.handle.Opening.{Opening}
 use Rattle.moves.specs.declared.handle.Opening.TheVariants.{Client, Fragment, Other, Unread}
-use Rattle.agent.specs.declared.judge.Resumes.{Resumes}
-use Rattle.agent.specs.declared.judge.Resumes.TheVariants as resumes
 use Rattle.agent.specs.declared.judge.Start.{Start}
 use Rattle.agent.specs.declared.turn.Frame.{Frame}
 use Rattle.moves.specs.declared.handle.Asked.{Asked}
@@ -98,9 +80,15 @@ use Rattle.moves.specs.declared.handle.Group.{Group}
 use Rattle.moves.specs.declared.handle.Group.TheVariants.{Creates, Deletes, Writes, Reads, Streams, Neither}
 use Rattle.agent.specs.declared.turn.Ran.{Ran}
 use Rattle.agent.specs.declared.turn.Taken.{Taken}
-use Rattle.agent.proofs.Back.{spot_first, spot_own, KeptBut, kept_same, kept_then, kept_set, is_spot, is_spot_lem, copies_long, put_back, line_length, line_back}
+use Rattle.agent.proofs.Back.{spot_first, spot_own, KeptBut, kept_same, kept_then, kept_set, put_back, stretch_back, kept_back, bytes_long, bytes_back}
+use Rattle.std.proofs.lemmas.List.{drop-drop}
 use Rattle.agent.proofs.Running.{run_end}
 use Rattle.agent.proofs.Resumed.{performed_held}
+use Rattle.std.specs.Prelude.{Err, None, Ok, Option, Result, Some}
+use Rattle.moves.specs.declared.proxy.BridgeAnswer.{BridgeAnswer}
+use Rattle.sessions.specs.declared.objects.Handle.{Handle}
+use Rattle.codec.specs.declared.refusals.Refusal.{Refusal}
+use Rattle.moves.specs.declared.proxy.Task.{Task}
 
 -- ---- one store
 
@@ -210,31 +198,31 @@ module _ (id : ℕ) (below : id < 256) where
   unfolding touched_rows
   touched_kept s time = go (named_of s id)
     where
-      go : (w : Named) → Own id s (kept_rows w s id (touched_session (session_at s id) time))
-      go named.Live = own_row s id (touched_session (session_at s id) time) below refl refl
-      go named.NotLive = own_same id s
-      go (named.Refused r) = own_same id s
+      go : (w : Result Bool Refusal) → Own id s (kept_rows w s id (touched_session (session_at s id) time))
+      go (Ok true) = own_row s id (touched_session (session_at s id) time) below refl refl
+      go (Ok false) = own_same id s
+      go (Err r) = own_same id s
 
-  count_kept : (s : List (List ℕ)) (r : Stored) → Own id s (keep_stored s id r)
-  count_kept s (stored.Count n) = own_row s id (counted_session (session_at s id) n) below refl refl
-  count_kept s stored.Full = own_same id s
-  count_kept s stored.NotLive = own_same id s
-  count_kept s (stored.Refused r) = own_same id s
+  count_kept : (s : List (List ℕ)) (r : Result Stored Refusal) → Own id s (keep_stored s id r)
+  count_kept s (Ok (stored.Count n)) = own_row s id (counted_session (session_at s id) n) below refl refl
+  count_kept s (Ok stored.Full) = own_same id s
+  count_kept s (Ok stored.NotLive) = own_same id s
+  count_kept s (Err r) = own_same id s
 
-  less_kept : (s : List (List ℕ)) (x : Removed) → Own id s (keep_removed s id x)
-  less_kept s (removed.Gone o) = own_row s id (counted_session (session_at s id) (used_of s id - 1)) below refl refl
-  less_kept s removed.Depended = own_same id s
-  less_kept s removed.Nothing = own_same id s
-  less_kept s (removed.Refused r) = own_same id s
+  less_kept : (s : List (List ℕ)) (x : Result Removed Refusal) → Own id s (keep_removed s id x)
+  less_kept s (Ok (removed.Gone o)) = own_row s id (counted_session (session_at s id) (used_of s id - 1)) below refl refl
+  less_kept s (Ok removed.Depended) = own_same id s
+  less_kept s (Ok removed.Nothing) = own_same id s
+  less_kept s (Err r) = own_same id s
 
 stored_kept : (s : List (List ℕ)) (o : List Object) (id : ℕ) (x : Object) → RecordsOf id o (stored_objects s o id x)
 unfolding stored_objects
 stored_kept s o id x = go (objects_named s (length o) id)
   where
-    go : (w : Named) → RecordsOf id o (stored_in w s o id x)
-    go named.Live = record_set o id _ x
-    go named.NotLive = records_same id o
-    go (named.Refused r) = records_same id o
+    go : (w : Result Bool Refusal) → RecordsOf id o (stored_in w s o id x)
+    go (Ok true) = record_set o id _ x
+    go (Ok false) = records_same id o
+    go (Err r) = records_same id o
 
 removed_kept : (s : List (List ℕ)) (o : List Object) (id : ℕ) (n : ObjectNumber) → RecordsOf id o (removed_objects s o id n)
 unfolding removed_objects
@@ -246,21 +234,21 @@ removed_kept s o id n = go (objects_named s (length o) id)
     used : ℕ
     used = used_of s id
 
-    at : (p : Place) → RecordsOf id o (with_object_row o id (removed_row (object_row o id) (used_of s id) p))
-    at (At i) = by (depended_in row used (get_or row i blank))
+    at : (p : Option ℕ) → RecordsOf id o (with_object_row o id (removed_row (object_row o id) (used_of s id) p))
+    at (Some i) = by (depended_in row used (get_or row i blank))
       where
         by : (b : Bool) → RecordsOf id o (with_object_row o id (cond b row (set row i (get_or row (used - 1) blank))))
         by true = record_same o id
         by false = record_set o id i _
-    at Nowhere = record_same o id
+    at None = record_same o id
 
-    go : (w : Named) → RecordsOf id o (removed_in w s o id n)
-    go named.Live = at (object_place (object_row o id) (used_of s id) n)
-    go named.NotLive = records_same id o
-    go (named.Refused r) = records_same id o
+    go : (w : Result Bool Refusal) → RecordsOf id o (removed_in w s o id n)
+    go (Ok true) = at (object_place (object_row o id) (used_of s id) n)
+    go (Ok false) = records_same id o
+    go (Err r) = records_same id o
 
 -- a stream's place is among the eight of its session
-few_streams : (s x : List (List ℕ)) (id : ℕ) → streams_named s (length x) id ≡ named.Live → streams_used s id ≤ 8
+few_streams : (s x : List (List ℕ)) (id : ℕ) → streams_named s (length x) id ≡ (Ok true) → streams_used s id ≤ 8
 unfolding streams_named
 few_streams s x id e = (live_fits s id (streams_used s id) 8 (length x) 2048 e).count
 
@@ -280,10 +268,10 @@ module _ (s x : List (List ℕ)) (id n : ℕ) where
       placed few false true p q = rw (p, q) (streams_same id x)
       placed few false false p q = rw (p, q) (own_set x id used (stream_row (new_stream n)) (leb-false 8 used q))
 
-      go : (w : Named) → streams_named s (length x) id ≡ w → RowsOf id x (opened_in (place_by w s x id n) x id n)
-      go named.Live e = placed (few_streams s x id e) (ltb found_at used) (leb 8 used) refl refl
-      go named.NotLive e = streams_same id x
-      go (named.Refused r) e = streams_same id x
+      go : (w : Result Bool Refusal) → streams_named s (length x) id ≡ w → RowsOf id x (opened_in (place_by w s x id n) x id n)
+      go (Ok true) e = placed (few_streams s x id e) (ltb found_at used) (leb 8 used) refl refl
+      go (Ok false) e = streams_same id x
+      go (Err r) e = streams_same id x
 
   open_sessions : id < 256 → Own id s (opened_sessions s x id n)
   unfolding stream_place
@@ -294,10 +282,10 @@ module _ (s x : List (List ℕ)) (id n : ℕ) where
       placed false true p q = rw (p, q) (own_same id s)
       placed false false p q = rw (p, q) (own_row s id (streamed_session (session_at s id) (used + 1)) below refl refl)
 
-      go : (w : Named) → Own id s (opened_count (place_by w s x id n) s id)
-      go named.Live = placed (ltb found_at used) (leb 8 used) refl refl
-      go named.NotLive = own_same id s
-      go (named.Refused r) = own_same id s
+      go : (w : Result Bool Refusal) → Own id s (opened_count (place_by w s x id n) s id)
+      go (Ok true) = placed (ltb found_at used) (leb 8 used) refl refl
+      go (Ok false) = own_same id s
+      go (Err r) = own_same id s
 
   written_rows : (state : StreamState) → RowsOf id x (written_in (stream_place s x id n) x id state)
   unfolding stream_place
@@ -308,20 +296,20 @@ module _ (s x : List (List ℕ)) (id n : ℕ) where
       placed few false true p q = rw (p, q) (streams_same id x)
       placed few false false p q = rw (p, q) (streams_same id x)
 
-      go : (w : Named) → streams_named s (length x) id ≡ w → RowsOf id x (written_in (place_by w s x id n) x id state)
-      go named.Live e = placed (few_streams s x id e) (ltb found_at used) (leb 8 used) refl refl
-      go named.NotLive e = streams_same id x
-      go (named.Refused r) e = streams_same id x
+      go : (w : Result Bool Refusal) → streams_named s (length x) id ≡ w → RowsOf id x (written_in (place_by w s x id n) x id state)
+      go (Ok true) e = placed (few_streams s x id e) (ltb found_at used) (leb 8 used) refl refl
+      go (Ok false) e = streams_same id x
+      go (Err r) e = streams_same id x
 
   -- a message that is held changes its stream's row
   sent_rows_lem : (h message : List ℕ) → RowsOf id x (sent_streams s x h id n message)
   unfolding sent_streams stream_place
   sent_rows_lem h message = go (streams_named s (length x) id) refl
     where
-      kept : (k : ℕ) → k < 8 → (w : Slot) (state : StreamState) → RowsOf id x (sent_row w x (first_stream id + k) state)
-      kept k l (slot.At i) state = own_set x id k (stream_row (alloc_of state).state) l
-      kept k l slot.Nowhere state = streams_same id x
-      kept k l (slot.Refused r) state = streams_same id x
+      kept : (k : ℕ) → k < 8 → (w : Result (Option ℕ) Refusal) (state : StreamState) → RowsOf id x (sent_row w x (first_stream id + k) state)
+      kept k l (Ok (Some i)) state = own_set x id k (stream_row (alloc_of state).state) l
+      kept k l (Ok None) state = streams_same id x
+      kept k l (Err r) state = streams_same id x
 
       placed : used ≤ 8 → (b c : Bool) → ltb found_at used ≡ b → leb 8 used ≡ c → RowsOf id x (sent_streams_at (placed_as found_at used) s x h id message)
       placed few true c p q =
@@ -332,10 +320,10 @@ module _ (s x : List (List ℕ)) (id n : ℕ) where
       placed few false true p q = rw (p, q) (streams_same id x)
       placed few false false p q = rw (p, q) (streams_same id x)
 
-      go : (w : Named) → streams_named s (length x) id ≡ w → RowsOf id x (sent_streams_at (place_by w s x id n) s x h id message)
-      go named.Live e = placed (few_streams s x id e) (ltb found_at used) (leb 8 used) refl refl
-      go named.NotLive e = streams_same id x
-      go (named.Refused r) e = streams_same id x
+      go : (w : Result Bool Refusal) → streams_named s (length x) id ≡ w → RowsOf id x (sent_streams_at (place_by w s x id n) s x h id message)
+      go (Ok true) e = placed (few_streams s x id e) (ltb found_at used) (leb 8 used) refl refl
+      go (Ok false) e = streams_same id x
+      go (Err r) e = streams_same id x
 
 -- the id of a new session, and the pointer behind it, are at most 255
 free_most : (free : ℕ → Bool) (n i : ℕ) → i < 256 → free_from free i n < 256
@@ -352,9 +340,9 @@ free_most free (suc n) i h = go (free_most free n (after i) (next (eqb i 255) re
     go l false = l
 
 -- and no session was live under it
-abbrev CreatedFits : List (List ℕ) → Created → Type 0
-CreatedFits s (created.Opened id next) = (id < 256) × (next < 256) × (is_free s id ≡ true)
-CreatedFits s (created.Refused r) = Unit {0}
+abbrev CreatedFits : List (List ℕ) → Result (ℕ × ℕ) Refusal → Type 0
+CreatedFits s (Ok (id, next)) = (id < 256) × (next < 256) × (is_free s id ≡ true)
+CreatedFits s (Err r) = Unit {0}
 
 created_fits : (s x : List (List ℕ)) (max next : ℕ) → next < 256 → CreatedFits s (created_of s x max next)
 unfolding created_of chosen_of free_of open_fits
@@ -370,15 +358,15 @@ created_fits s x max next h = fits (table_fits s) (streams_fit x) (leb max 255) 
     behind true e = omega arith
     behind false e = let q = eqb-false id 255 e in omega (arith, q, low)
 
-    taken : 0 < next → (b : Bool) → eqb id 0 ≡ b → CreatedFits s (cond b (created.Refused SessionFull) (created.Opened id (after id)))
+    taken : 0 < next → (b : Bool) → eqb id 0 ≡ b → CreatedFits s (cond b (Err SessionFull) (Ok (id, (after id))))
     taken some true e = tt
     taken some false e = (low, behind (eqb id 255) refl, (found_by_lem s next (omega (arith, some)) (omega (arith, h)) (eqb-false id 0 e)).0)
 
-    room : 0 < next → (c : Bool) → CreatedFits s (cond c (taken_as id) (created.Refused SessionFull))
+    room : 0 < next → (c : Bool) → CreatedFits s (cond c (taken_as id) (Err SessionFull))
     room some true = taken some (eqb id 0) refl
     room some false = tt
 
-    fits : (a b c e : Bool) → ltb 0 next ≡ e → CreatedFits s (cond (cond a (cond b (cond c e false) false) false) (cond (ltb (live_of s) max) (taken_as id) (created.Refused SessionFull)) (created.Refused OverLimit))
+    fits : (a b c e : Bool) → ltb 0 next ≡ e → CreatedFits s (cond (cond a (cond b (cond c e false) false) false) (cond (ltb (live_of s) max) (taken_as id) (Err SessionFull)) (Err OverLimit))
     fits true true true true q = room (ltb-true 0 next q) (ltb (live_of s) max)
     fits true true true false q = tt
     fits true true false e q = tt
@@ -438,45 +426,45 @@ module _ (id : ℕ) (below : id < 256) where
   created_objects_lem DataWriter s o n p = records_same id o
   created_objects_lem DataReader s o n p = records_same id o
 
-  room_sessions_lem : (r : Room) (s : List (List ℕ)) (o : List Object) (n : ObjectNumber) (k : ObjectKind) (p : ℕ) → Own id s (room_sessions r s o id n k p)
-  room_sessions_lem room.Free s o n k p = created_sessions_lem k s o n p
-  room_sessions_lem room.Full s o n k p = own_same id s
-  room_sessions_lem room.Depended s o n k p = own_same id s
-  room_sessions_lem room.NotLive s o n k p = own_same id s
-  room_sessions_lem (room.Refused x) s o n k p = own_same id s
+  room_sessions_lem : (r : Result Room Refusal) (s : List (List ℕ)) (o : List Object) (n : ObjectNumber) (k : ObjectKind) (p : ℕ) → Own id s (room_sessions r s o id n k p)
+  room_sessions_lem (Ok room.Free) s o n k p = created_sessions_lem k s o n p
+  room_sessions_lem (Ok room.Full) s o n k p = own_same id s
+  room_sessions_lem (Ok room.Depended) s o n k p = own_same id s
+  room_sessions_lem (Ok room.NotLive) s o n k p = own_same id s
+  room_sessions_lem (Err x) s o n k p = own_same id s
 
-  room_objects_lem : (r : Room) (s : List (List ℕ)) (o : List Object) (n : ObjectNumber) (k : ObjectKind) (p : ℕ) → RecordsOf id o (room_objects r s o id n k p)
-  room_objects_lem room.Free s o n k p = created_objects_lem k s o n p
-  room_objects_lem room.Full s o n k p = records_same id o
-  room_objects_lem room.Depended s o n k p = records_same id o
-  room_objects_lem room.NotLive s o n k p = records_same id o
-  room_objects_lem (room.Refused x) s o n k p = records_same id o
+  room_objects_lem : (r : Result Room Refusal) (s : List (List ℕ)) (o : List Object) (n : ObjectNumber) (k : ObjectKind) (p : ℕ) → RecordsOf id o (room_objects r s o id n k p)
+  room_objects_lem (Ok room.Free) s o n k p = created_objects_lem k s o n p
+  room_objects_lem (Ok room.Full) s o n k p = records_same id o
+  room_objects_lem (Ok room.Depended) s o n k p = records_same id o
+  room_objects_lem (Ok room.NotLive) s o n k p = records_same id o
+  room_objects_lem (Err x) s o n k p = records_same id o
 
-  acknowledged_kept : (s x : List (List ℕ)) (a : StreamNamed) (state : StreamState) (p : AcknackPayload) → RowsOf id x (acknowledged_rows s x id a state p)
-  acknowledged_kept s x named-stream.Open state p = written_rows s x id _ _
-  acknowledged_kept s x named-stream.NotOpen state p = streams_same id x
-  acknowledged_kept s x named-stream.NotLive state p = streams_same id x
-  acknowledged_kept s x (named-stream.Refused r) state p = streams_same id x
+  acknowledged_kept : (s x : List (List ℕ)) (a : Result StreamNamed Refusal) (state : StreamState) (p : AcknackPayload) → RowsOf id x (acknowledged_rows s x id a state p)
+  acknowledged_kept s x (Ok named-stream.Open) state p = written_rows s x id _ _
+  acknowledged_kept s x (Ok named-stream.NotOpen) state p = streams_same id x
+  acknowledged_kept s x (Ok named-stream.NotLive) state p = streams_same id x
+  acknowledged_kept s x (Err r) state p = streams_same id x
 
   stream_rows_lem : (hears : Bool) (first second : ℕ) (s x : List (List ℕ)) (r : StreamRead) → RowsOf id x (stream_rows hears first second s x id r)
   stream_rows_lem true first second s x r = streams_same id x
   stream_rows_lem false first second s x r = acknowledged_kept s x r.answer r.state _
 
-  read_sessions_lem : (h : ObjectHandle) (s x : List (List ℕ)) (n : ℕ) → Own id s (read_sessions h s x id n)
-  read_sessions_lem (Bridged h) s x n = go (eqb n 0)
+  read_sessions_lem : (h : Option Handle) (s x : List (List ℕ)) (n : ℕ) → Own id s (read_sessions h s x id n)
+  read_sessions_lem (Some h) s x n = go (eqb n 0)
     where
       go : (b : Bool) → Own id s (cond b s (opened_sessions s x id n))
       go true = own_same id s
       go false = open_sessions s x id n below
-  read_sessions_lem Implicit s x n = own_same id s
+  read_sessions_lem None s x n = own_same id s
 
-  read_rows_lem : (h : ObjectHandle) (s x : List (List ℕ)) (n : ℕ) → RowsOf id x (read_rows h s x id n)
-  read_rows_lem (Bridged h) s x n = go (eqb n 0)
+  read_rows_lem : (h : Option Handle) (s x : List (List ℕ)) (n : ℕ) → RowsOf id x (read_rows h s x id n)
+  read_rows_lem (Some h) s x n = go (eqb n 0)
     where
       go : (b : Bool) → RowsOf id x (cond b x (opened_rows s x id n))
       go true = streams_same id x
       go false = open_rows s x id n
-  read_rows_lem Implicit s x n = streams_same id x
+  read_rows_lem None s x n = streams_same id x
 
   handled_kept : (g : Group) (q : Asked) (t : Stores) (n : ℕ) → StoresKept id t (handled_in g q t id n)
   handled_kept Creates q t n =
@@ -510,13 +498,13 @@ module _ (id : ℕ) (below : id < 256) where
       }
   handled_kept Neither q t n = same_stores id t
 
-  create_kept : (c : Created) (t : Tables) (key time : ℕ) → CreatedFits t.sessions c → TablesKept id t (create_tables c t key time)
-  create_kept (created.Opened j next) t key time f = record {
+  create_kept : (c : Result (ℕ × ℕ) Refusal) (t : Tables) (key time : ℕ) → CreatedFits t.sessions c → TablesKept id t (create_tables c t key time)
+  create_kept (Ok (j, next)) t key time f = record {
     sessions_kept = row_set t.sessions j _ f.0;
     streams_kept = first_set t.streams id j _ f.0;
     objects_kept = records_same id t.objects;
   }
-  create_kept (created.Refused r) t key time f = same_tables id t
+  create_kept (Err r) t key time f = same_tables id t
 
 -- ---- one submessage, a run, a whole call
 
@@ -536,11 +524,11 @@ module _ (f : Frame) (below : f.session_id < 256) where
   opening_goes : (t : Tables) (r : Ran) (key at : ℕ) → r.next < 256 → Goes named_id t (opening f t r key at)
   opening_goes t r key at h = go (created_of t.sessions t.streams f.max_clients r.next) (created_fits t.sessions t.streams f.max_clients r.next h)
     where
-      open_next : (c : Created) → CreatedFits t.sessions c → pointer_of c r.next < 256
-      open_next (created.Opened j next) g = g.1
-      open_next (created.Refused x) g = h
+      open_next : (c : Result (ℕ × ℕ) Refusal) → CreatedFits t.sessions c → pointer_of c r.next < 256
+      open_next (Ok (j, next)) g = g.1
+      open_next (Err x) g = h
 
-      go : (c : Created) → CreatedFits t.sessions c → Goes named_id t (record { ran = greeted f r at c; tables = create_tables c t key f.moment.time; replies = opened (id_opened c) ∷ [] })
+      go : (c : Result (ℕ × ℕ) Refusal) → CreatedFits t.sessions c → Goes named_id t (record { ran = greeted f r at c; tables = create_tables c t key f.moment.time; replies = opened (id_opened c) ∷ [] })
       go c g = record { tables_kept = create_kept named_id below c t key f.moment.time g; next_low = open_next c g }
 
   touched_stores : (t : Stores) → StoresKept named_id t (touched_in f t)
@@ -549,13 +537,13 @@ module _ (f : Frame) (below : f.session_id < 256) where
   passed_acts : (t : Stores) (r : Ran) (a : Acted) → a.rows ≡ t → a.ran.next ≡ r.next → Acts named_id t r a
   passed_acts t r a e n = record { stores_kept = subst (StoresKept named_id t) (sym e) (same_stores named_id t); next_stays = n }
 
-  delivered_acts : (w : Named) (t : Stores) (h d : List ℕ) (r : Ran) (x : Taken) → Acts named_id t r (delivered w f t h d r x)
-  delivered_acts named.Live t h d r x =
+  delivered_acts : (w : Result Bool Refusal) (t : Stores) (h d : List ℕ) (r : Ran) (x : Taken) → Acts named_id t r (delivered w f t h d r x)
+  delivered_acts (Ok true) t h d r x =
       let u = touched_in f t in
       let q = x.asked in
       record { stores_kept = then_stores named_id t u (handled_rows q u named_id f.stream_id) (touched_stores t) (handled_kept named_id below q.group q u f.stream_id); next_stays = refl }
-  delivered_acts named.NotLive t h d r x = record { stores_kept = touched_stores t; next_stays = refl }
-  delivered_acts (named.Refused y) t h d r x = record { stores_kept = touched_stores t; next_stays = refl }
+  delivered_acts (Ok false) t h d r x = record { stores_kept = touched_stores t; next_stays = refl }
+  delivered_acts (Err y) t h d r x = record { stores_kept = touched_stores t; next_stays = refl }
 
   inside_acts : (t : Stores) (h s : List ℕ) (r : Ran) → Acts named_id t r (inside_turned f t h s r)
   unfolding inside_turned
@@ -589,9 +577,9 @@ module _ (f : Frame) (below : f.session_id < 256) where
   unfolding work_at
   work_acts h s r t = work_in_acts (length s - r.at) h s r t
 
-  left_acts : (o : Rebuilt) (h s : List ℕ) (n : ℕ) (r : Ran) (at : ℕ) (t : Stores) → Acts named_id t r (left_by o f h s n r at t)
-  left_acts (rebuilt.Subs k) h s n r at t = let a = work_acts h s (entered_ran r) t in record { stores_kept = a.stores_kept; next_stays = a.next_stays }
-  left_acts (rebuilt.Refused x) h s n r at t = passed_acts t r _ refl refl
+  left_acts : (o : Result ℕ Refusal) (h s : List ℕ) (n : ℕ) (r : Ran) (at : ℕ) (t : Stores) → Acts named_id t r (left_by o f h s n r at t)
+  left_acts (Ok k) h s n r at t = let a = work_acts h s (entered_ran r) t in record { stores_kept = a.stores_kept; next_stays = a.next_stays }
+  left_acts (Err x) h s n r at t = passed_acts t r _ refl refl
 
   -- a FRAGMENT: its session's own row
   gathered_own : (s : List (List ℕ)) (parts lengths rebuilt : List ℕ) (nr total : ℕ) (body : List ℕ) → Own named_id s (gathered_rows s parts lengths rebuilt named_id nr total body)
@@ -655,29 +643,29 @@ module _ (f : Frame) (below : f.session_id < 256) where
       go k true = then_tables named_id t (turned f t d r).tables (run_in left f d (turned f t d r).ran (turned f t d r).tables).tables (turned_goes t d r h).tables_kept k
       go k false = same_tables named_id t
 
-  begun_sessions_lem : (x : Resumes) (s : List (List ℕ)) (o : List Object) → Own named_id s (begun_sessions x s o f)
-  begun_sessions_lem resumes.Nothing s o = own_same named_id s
-  begun_sessions_lem (resumes.Answer number task a) s o = go (got_of s named_id) (keeps_of number task a)
+  begun_sessions_lem : (x : Option (ObjectNumber × Task × BridgeAnswer)) (s : List (List ℕ)) (o : List Object) → Own named_id s (begun_sessions x s o f)
+  begun_sessions_lem None s o = own_same named_id s
+  begun_sessions_lem (Some (number, task, a)) s o = go (got_of s named_id) (keeps_of number task a)
     where
-      go : (g : Got) (k : Keeps) → Own named_id s (answered_sessions g k s o named_id)
-      go (got.Session y) (keeps.Object z) = count_kept named_id below s (stored_object s o named_id z)
-      go (got.Session y) keeps.Nothing = own_same named_id s
-      go got.NotLive k = own_same named_id s
-      go (got.Refused r) k = own_same named_id s
+      go : (g : Result (Option ClientSession) Refusal) (k : Option Object) → Own named_id s (answered_sessions g k s o named_id)
+      go (Ok (Some y)) (Some z) = count_kept named_id below s (stored_object s o named_id z)
+      go (Ok (Some y)) None = own_same named_id s
+      go (Ok None) k = own_same named_id s
+      go (Err r) k = own_same named_id s
 
-  begun_objects_lem : (x : Resumes) (s : List (List ℕ)) (o : List Object) → RecordsOf named_id o (begun_objects x s o f)
-  begun_objects_lem resumes.Nothing s o = records_same named_id o
-  begun_objects_lem (resumes.Answer number task a) s o = go (got_of s named_id) (keeps_of number task a)
+  begun_objects_lem : (x : Option (ObjectNumber × Task × BridgeAnswer)) (s : List (List ℕ)) (o : List Object) → RecordsOf named_id o (begun_objects x s o f)
+  begun_objects_lem None s o = records_same named_id o
+  begun_objects_lem (Some (number, task, a)) s o = go (got_of s named_id) (keeps_of number task a)
     where
-      go : (g : Got) (k : Keeps) → RecordsOf named_id o (answered_objects g k s o named_id)
-      go (got.Session y) (keeps.Object z) = stored_kept s o named_id z
-      go (got.Session y) keeps.Nothing = records_same named_id o
-      go got.NotLive k = records_same named_id o
-      go (got.Refused r) k = records_same named_id o
+      go : (g : Result (Option ClientSession) Refusal) (k : Option Object) → RecordsOf named_id o (answered_objects g k s o named_id)
+      go (Ok (Some y)) (Some z) = stored_kept s o named_id z
+      go (Ok (Some y)) None = records_same named_id o
+      go (Ok None) k = records_same named_id o
+      go (Err r) k = records_same named_id o
 
-  begun_streams_lem : (x : Resumes) (s y : List (List ℕ)) (h sample : List ℕ) → RowsOf named_id y (begun_streams x s y h f sample)
-  begun_streams_lem resumes.Nothing s y h sample = streams_same named_id y
-  begun_streams_lem (resumes.Answer number task a) s y h sample = go (got_of s named_id) (says_of task a)
+  begun_streams_lem : (x : Option (ObjectNumber × Task × BridgeAnswer)) (s y : List (List ℕ)) (h sample : List ℕ) → RowsOf named_id y (begun_streams x s y h f sample)
+  begun_streams_lem None s y h sample = streams_same named_id y
+  begun_streams_lem (Some (number, task, a)) s y h sample = go (got_of s named_id) (says_of task a)
     where
       bytes : List ℕ
       bytes = begun_bytes number task a s y f sample
@@ -686,11 +674,11 @@ module _ (f : Frame) (below : f.session_id < 256) where
       held true = streams_same named_id y
       held false = sent_rows_lem s y named_id f.stream_id h bytes
 
-      go : (g : Got) (q : Says) → RowsOf named_id y (answered_streams g q f s y h bytes)
-      go (got.Session z) (says.Status code) = streams_same named_id y
-      go (got.Session z) says.Data = held (eqb f.stream_id 0)
-      go got.NotLive q = streams_same named_id y
-      go (got.Refused r) q = streams_same named_id y
+      go : (g : Result (Option ClientSession) Refusal) (q : Says) → RowsOf named_id y (answered_streams g q f s y h bytes)
+      go (Ok (Some z)) (says.Status code) = streams_same named_id y
+      go (Ok (Some z)) says.Data = held (eqb f.stream_id 0)
+      go (Ok None) q = streams_same named_id y
+      go (Err r) q = streams_same named_id y
 
 module _ (x : Start) (below : x.frame.session_id < 256) (low : x.next < 256) (t : Tables) (d sample : List ℕ) where
   abbrev its_id : ℕ
@@ -735,14 +723,19 @@ module _ (x : Start) (below : x.frame.session_id < 256) (low : x.next < 256) (t 
   objects_long h = let e = performed_kept.objects_kept.long in omega (arith, e, h, below)
 
   -- and so the copies give the stores back
-  pub sessions_back : restored session_back no_session session_spot 256 (copied session_copy [] session_spot 256 t.sessions (replicate 256 no_session)) (performed x t d sample).tables.sessions ≡ t.sessions
-  sessions_back = put_back session_copy session_back (λ row. refl) [] no_session session_spot t.sessions (replicate 256 no_session) 256 (performed x t d sample).tables.sessions (copies_long 256 no_session) performed_kept.sessions_kept
+  pub sessions_back : (line : List (List ℕ)) → 256 ≤ length t.sessions → back_in (performed x t d sample).tables.sessions (kept_in line t.sessions 0 256) 0 256 ≡ t.sessions
+  sessions_back line h =
+      let after = (performed x t d sample).tables.sessions in
+      kept_back [] 0 256 t.sessions after (subst (λ (spot : ℕ → ℕ). KeptBut [] spot 256 t.sessions after) (λ i k. sym (zero-add k) i) performed_kept.sessions_kept) line h
 
-  pub streams_back : restored stream_back no_stream (stream_spot its_id) 264 (copied stream_copy [] (stream_spot its_id) 264 t.streams (replicate 264 no_stream)) (performed x t d sample).tables.streams ≡ t.streams
-  streams_back = put_back stream_copy stream_back (λ row. refl) [] no_stream (stream_spot its_id) t.streams (replicate 264 no_stream) 264 (performed x t d sample).tables.streams (copies_long 264 no_stream) performed_kept.streams_kept
+  pub streams_back : (line : List (List ℕ)) → 264 ≤ length line → restored same [] (stream_spot its_id) 264 (copied same [] (stream_spot its_id) 264 t.streams line) (performed x t d sample).tables.streams ≡ t.streams
+  streams_back line h = put_back same same (λ row. refl) [] [] (stream_spot its_id) t.streams line 264 (performed x t d sample).tables.streams h performed_kept.streams_kept
 
-  pub objects_back : restored same blank (object_spot (32 * its_id)) 32 (copied same blank (object_spot (32 * its_id)) 32 t.objects (replicate 32 blank)) (performed x t d sample).tables.objects ≡ t.objects
-  objects_back = put_back same same (λ o. refl) blank blank (object_spot (32 * its_id)) t.objects (replicate 32 blank) 32 (performed x t d sample).tables.objects (copies_long 32 blank) performed_kept.objects_kept
+  pub objects_back : (line : List Object) (first n : ℕ) → first ≡ 32 * its_id → n ≡ 32 → 8192 ≤ length t.objects
+      → back_in (performed x t d sample).tables.objects (kept_in line t.objects first n) first n ≡ t.objects
+  objects_back line first n e f h =
+      let after = (performed x t d sample).tables.objects in
+      rw (e, f) (kept_back blank (32 * its_id) 32 t.objects after performed_kept.objects_kept line (omega (arith, h, below)))
 
 -- ---- and the buffer of the stream that the call names, which the answer's part may fill
 
@@ -753,23 +746,14 @@ module _ (h : List ℕ) (b : Stretch) (low : b.start ≤ b.end) (within : b.end 
       ap (λ (l : List ℕ). put_bytes l b.start (buffer_in h b)) (sym (with_same h b))
       ∙ put-buffer-back h b low within (buffer_in h b) (buffer_length h b low within)
 
-  pub copy_long : b.end - b.start ≤ 32768 → length (buffer_copy (buffer_in h b)).0 ≡ 32768
-  copy_long few = let l = buffer_length h b low within in line_length 32768 (buffer_in h b) (omega (arith, l, few))
-
-  buffer_copied : b.end - b.start ≤ 32768 → buffer_back (buffer_copy (buffer_in h b)) (b.end - b.start) ≡ buffer_in h b
-  buffer_copied few =
-      let bytes = buffer_in h b in
-      let l = buffer_length h b low within in
-      ap (λ (n : ℕ). take n (put_bytes (replicate 32768 0) 0 bytes)) (sym l) ∙ line_back 32768 bytes (omega (arith, l, few))
-
 module _ (x : Start) (t : Tables) (d sample : List ℕ) where
   abbrev its_buffer : Stretch
   its_buffer = buffer_stretch t.sessions t.streams (length t.held) x.frame.session_id x.frame.stream_id
 
   module _ (low : its_buffer.start ≤ its_buffer.end) (within : its_buffer.end ≤ length t.held) where
-    begun_back : (r : Resumes) → put_bytes (begun_held r t.sessions t.streams t.held x.frame sample) its_buffer.start (buffer_in t.held its_buffer) ≡ t.held
-    begun_back resumes.Nothing = own_back t.held its_buffer low within
-    begun_back (resumes.Answer number task a) = go (got_of t.sessions x.frame.session_id) (says_of task a)
+    begun_back : (r : Option (ObjectNumber × Task × BridgeAnswer)) → put_bytes (begun_held r t.sessions t.streams t.held x.frame sample) its_buffer.start (buffer_in t.held its_buffer) ≡ t.held
+    begun_back None = own_back t.held its_buffer low within
+    begun_back (Some (number, task, a)) = go (got_of t.sessions x.frame.session_id) (says_of task a)
       where
         bytes : List ℕ
         bytes = begun_bytes number task a t.sessions t.streams x.frame sample
@@ -778,17 +762,20 @@ module _ (x : Start) (t : Tables) (d sample : List ℕ) where
         sent true = own_back t.held its_buffer low within
         sent false = held_back t.sessions t.streams t.held x.frame.session_id x.frame.stream_id bytes
 
-        go : (g : Got) (q : Says) → put_bytes (answered_held g q x.frame t.sessions t.streams t.held bytes) its_buffer.start (buffer_in t.held its_buffer) ≡ t.held
-        go (got.Session z) (says.Status code) = own_back t.held its_buffer low within
-        go (got.Session z) says.Data = sent (eqb x.frame.stream_id 0)
-        go got.NotLive q = own_back t.held its_buffer low within
-        go (got.Refused r) q = own_back t.held its_buffer low within
+        go : (g : Result (Option ClientSession) Refusal) (q : Says) → put_bytes (answered_held g q x.frame t.sessions t.streams t.held bytes) its_buffer.start (buffer_in t.held its_buffer) ≡ t.held
+        go (Ok (Some z)) (says.Status code) = own_back t.held its_buffer low within
+        go (Ok (Some z)) says.Data = sent (eqb x.frame.stream_id 0)
+        go (Ok None) q = own_back t.held its_buffer low within
+        go (Err r) q = own_back t.held its_buffer low within
 
-    pub buffer_back_lem : its_buffer.end - its_buffer.start ≤ 32768
-        → put_bytes (performed x t d sample).tables.held its_buffer.start (buffer_back (buffer_copy (buffer_in t.held its_buffer)) (its_buffer.end - its_buffer.start)) ≡ t.held
-    buffer_back_lem few =
-        ap (put_bytes (performed x t d sample).tables.held its_buffer.start) (buffer_copied t.held its_buffer low within few)
-        ∙ (ap (λ (l : List ℕ). put_bytes l its_buffer.start (buffer_in t.held its_buffer)) (performed_held x t d sample) ∙ begun_back x.resumes)
+    its_own : put_bytes (performed x t d sample).tables.held its_buffer.start (buffer_in t.held its_buffer) ≡ t.held
+    its_own = ap (λ (l : List ℕ). put_bytes l its_buffer.start (buffer_in t.held its_buffer)) (performed_held x t d sample) ∙ begun_back x.resumes
+
+    pub held_long : length (performed x t d sample).tables.held ≡ length t.held
+    held_long = bytes_long t.held (performed x t d sample).tables.held its_buffer low within its_own
+
+    pub buffer_back : (line : List ℕ) → back_in (performed x t d sample).tables.held (kept_in line t.held its_buffer.start (its_buffer.end - its_buffer.start)) its_buffer.start (its_buffer.end - its_buffer.start) ≡ t.held
+    buffer_back = bytes_back t.held (performed x t d sample).tables.held its_buffer low within its_own
 
 -- ---- a session's fragments and the place of rebuilt bytes, in a run of which the session is live
 
@@ -829,33 +816,11 @@ module _ (b : Stretch) (xs : List ℕ) (low : b.start ≤ b.end) (within : b.end
       ap (λ (l : List ℕ). put_bytes l b.start (buffer_in xs b)) (inside_refilled ys k)
       ∙ put-buffer-back xs b low within (buffer_in ys b) (buffer_length ys b low (omega (arith, within, long)))
 
-  -- and entry by entry
-  before_start : (ys : List ℕ) → Inside b xs ys → (p : ℕ) → p < b.start → get_or ys p 0 ≡ get_or xs p 0
-  before_start ys k p h = sym (get_or-take b.start ys p 0 h) ∙ (ap (λ (l : List ℕ). get_or l p 0) k.1 ∙ get_or-take b.start xs p 0 h)
-
-  behind_end : (ys : List ℕ) → Inside b xs ys → (p : ℕ) → b.end ≤ p → get_or ys p 0 ≡ get_or xs p 0
-  behind_end ys k p h =
-      let j = p - b.end in
-      let e : b.start + (roomIn b + j) ≡ p = omega (arith, h, low) in
-      ap (λ (m : ℕ). get_or ys m 0) (sym e) ∙ (sym (at_end ys j) ∙ (ap (λ (l : List ℕ). get_or l j 0) k.2 ∙ (at_end xs j ∙ ap (λ (m : ℕ). get_or xs m 0) e)))
-    where
-      at_end : (l : List ℕ) (j : ℕ) → get_or (drop (roomIn b) (drop b.start l)) j 0 ≡ get_or l (b.start + (roomIn b + j)) 0
-      at_end l j = get_or-drop (roomIn b) (drop b.start l) j 0 ∙ get_or-drop b.start l (roomIn b + j) 0
-
-  inside_kept : (ys : List ℕ) → Inside b xs ys → KeptBut 0 (object_spot b.start) (b.end - b.start) xs ys
-  inside_kept ys k = record { long = k.0; elsewhere = λ p e. at p (ltb p b.start) (ltb p b.end) refl refl e }
-    where
-      spot : (p : ℕ) → b.start ≤ p → p < b.end → is_spot (object_spot b.start) (b.end - b.start) p ≡ true
-      spot p l h =
-          let e : b.start + (p - b.start) ≡ p = omega (arith, l) in
-          ap (is_spot (object_spot b.start) (b.end - b.start)) (sym e) ∙ is_spot_lem (object_spot b.start) (b.end - b.start) (p - b.start) (omega (arith, l, h))
-
-      at : (p : ℕ) (c e : Bool) → ltb p b.start ≡ c → ltb p b.end ≡ e → is_spot (object_spot b.start) (b.end - b.start) p ≡ false → get_or ys p 0 ≡ get_or xs p 0
-      at p true e q w z = before_start ys k p (ltb-true p b.start q)
-      at p false true q w z =
-          let s = spot p (ltb-false p b.start q) (ltb-true p b.end w) in
-          let n : ◌≡◌ {A = ℕ} 0 1 = cc in absurd (omega (arith, n))
-      at p false false q w z = behind_end ys k p (ltb-false p b.end w)
+  inside_kept : (ys line : List ℕ) → Inside b xs ys → back_in ys (kept_in line xs b.start (b.end - b.start)) b.start (b.end - b.start) ≡ xs
+  inside_kept ys line k =
+      let n = b.end - b.start in
+      let rest : drop (b.start + n) ys ≡ drop (b.start + n) xs = sym (drop-drop n b.start ys) ∙ (k.2 ∙ drop-drop n b.start xs) in
+      stretch_back line xs ys b.start n (omega (arith, low, within)) k.1 rest
 
 module _ (id : ℕ) where
   abbrev pub its_parts : Tables → Stretch
@@ -920,12 +885,12 @@ module _ (f : Frame) (below : f.session_id < 256) where
   still_lives t u e s = ap (λ (n : ℕ). eqb n 0) s.0 ∙ e
 
   -- a session that is opened has another id
-  create_stays : (c : Created) (t : Tables) (key time : ℕ) → CreatedFits t.sessions c → Lives t → Stays its t.sessions (create_tables c t key time).sessions
-  create_stays (created.Opened j next) t key time g e =
+  create_stays : (c : Result (ℕ × ℕ) Refusal) (t : Tables) (key time : ℕ) → CreatedFits t.sessions c → Lives t → Stays its t.sessions (create_tables c t key time).sessions
+  create_stays (Ok (j, next)) t key time g e =
       let other : its ≡ j → ⊥ = λ q. (let z : ◌≡◌ {A = ℕ} 0 1 = cc (e, g.2, q) in omega (arith, z)) in
       let k = kept_elsewhere t.sessions j (new_session key time (free_slot t.sessions)) its other in
       (ap (λ (z : ClientSession). z.live) k, ap (λ (z : ClientSession). z.slot) k)
-  create_stays (created.Refused r) t key time g e = (refl, refl)
+  create_stays (Err r) t key time g e = (refl, refl)
 
   fragment_fragments : (t : Tables) (d : List ℕ) (r : Ran) (x : Taken) → FragmentsKept its t (fragment_turned f t d r x).tables
   unfolding fragment_turned
@@ -970,7 +935,7 @@ module _ (f : Frame) (below : f.session_id < 256) where
   unfolding named_of
   lives_by s = go (table_fits s) (is_free s its)
     where
-      go : (a b : Bool) → is_live (cond a (cond b named.NotLive named.Live) (named.Refused OverLimit)) ≡ true → b ≡ false
+      go : (a b : Bool) → is_live (cond a (cond b (Ok false) (Ok true)) (Err OverLimit)) ≡ true → b ≡ false
       go true true e = let z : ◌≡◌ {A = ℕ} 0 1 = cc in absurd (omega (arith, z))
       go true false e = refl
       go false b e = let z : ◌≡◌ {A = ℕ} 0 1 = cc in absurd (omega (arith, z))
@@ -1016,28 +981,32 @@ module _ (f : Frame) (below : f.session_id < 256) (d : List ℕ) (r : Ran) (t : 
   abbrev after_run : Tables
   after_run = (run_at f d r t).tables
 
-  pub rebuilt_back : 32768 ≤ length t.rebuilt → put_bytes (run_at f d r t).tables.rebuilt 0 (buffer_back (buffer_copy (buffer_in t.rebuilt rebuilt_place)) 32768) ≡ t.rebuilt
-  rebuilt_back h =
-      let k = run_rebuilt f below d r t in
-      ap (put_bytes after_run.rebuilt 0) (buffer_copied t.rebuilt rebuilt_place (omega arith) h (omega arith))
-      ∙ inside_back rebuilt_place t.rebuilt (omega arith) h after_run.rebuilt (k.0, refl, k.1)
+  rebuilt_inside : Inside rebuilt_place t.rebuilt after_run.rebuilt
+  rebuilt_inside = let k = run_rebuilt f below d r t in (k.0, refl, k.1)
+
+  pub rebuilt_long : length after_run.rebuilt ≡ length t.rebuilt
+  rebuilt_long = rebuilt_inside.0
+
+  pub rebuilt_back : (line : List ℕ) → 32768 ≤ length t.rebuilt → back_in (run_at f d r t).tables.rebuilt (kept_in line t.rebuilt 0 32768) 0 32768 ≡ t.rebuilt
+  rebuilt_back line h = inside_kept rebuilt_place t.rebuilt (omega arith) h after_run.rebuilt line rebuilt_inside
 
   module _ (low : r.next < 256) (e : entered f (length d) r t.sessions ≡ true) where
     abbrev kept_so : FragmentsKept f.session_id t after_run
     kept_so = run_fragments f below d r t low e
 
     -- the stretches as the code finds them
-    pub parts_back : (b : Stretch) → b ≡ its_parts f.session_id t → b.start ≤ b.end → b.end ≤ length t.parts → b.end - b.start ≤ 32768
-        → put_bytes after_run.parts b.start (buffer_back (buffer_copy (buffer_in t.parts b)) (b.end - b.start)) ≡ t.parts
-    parts_back b is lo hi few =
-        ap (put_bytes after_run.parts b.start) (buffer_copied t.parts b lo hi few)
-        ∙ inside_back b t.parts lo hi after_run.parts (subst (λ (b : Stretch). Inside b t.parts after_run.parts) (sym is) kept_so.parts_kept)
+    pub parts_back : (line : List ℕ) (b : Stretch) → b ≡ its_parts f.session_id t → b.start ≤ b.end → b.end ≤ length t.parts
+        → back_in after_run.parts (kept_in line t.parts b.start (b.end - b.start)) b.start (b.end - b.start) ≡ t.parts
+    parts_back line b is lo hi =
+        inside_kept b t.parts lo hi after_run.parts line (subst (λ (b : Stretch). Inside b t.parts after_run.parts) (sym is) kept_so.parts_kept)
 
-    pub lengths_back : (b : Stretch) → b ≡ its_lengths f.session_id t → b.start ≤ b.end → b.end ≤ length t.lengths → b.end - b.start ≤ 64
-        → restored same 0 (object_spot b.start) (b.end - b.start) (copied same 0 (object_spot b.start) (b.end - b.start) t.lengths (replicate 64 0)) after_run.lengths ≡ t.lengths
-    lengths_back b is lo hi few =
-        put_back same same (λ n. refl) 0 0 (object_spot b.start) t.lengths (replicate 64 0) (b.end - b.start) after_run.lengths (let l = copies_long {A = ℕ} 64 0 in omega (arith, l, few))
-        (inside_kept b t.lengths lo hi after_run.lengths (subst (λ (b : Stretch). Inside b t.lengths after_run.lengths) (sym is) kept_so.lengths_kept_lem))
+    pub lengths_back : (line : List ℕ) (b : Stretch) → b ≡ its_lengths f.session_id t → b.start ≤ b.end → b.end ≤ length t.lengths
+        → back_in after_run.lengths (kept_in line t.lengths b.start (b.end - b.start)) b.start (b.end - b.start) ≡ t.lengths
+    lengths_back line b is lo hi =
+        inside_kept b t.lengths lo hi after_run.lengths line (subst (λ (b : Stretch). Inside b t.lengths after_run.lengths) (sym is) kept_so.lengths_kept_lem)
+
+    pub parts_long : length after_run.parts ≡ length t.parts
+    parts_long = kept_so.parts_kept.0
 
     pub lengths_long : length after_run.lengths ≡ length t.lengths
     lengths_long = kept_so.lengths_kept_lem.0

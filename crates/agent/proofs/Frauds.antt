@@ -1,10 +1,10 @@
 -- Document 01, "Which frauds are shut out?": wrong agents over the real rules, each with the list H and the clause that stop it.
+use Rattle.std.specs.Prelude.{Option, None, Some}
 use mathlib.Core.Path.{◌≡◌, refl, sym, ap}
 use Prim.Native.Nat.{ℕ, ◌<◌, ◌≤◌}
 use native.Mathlib.Omega.{arith}
 use mathlib.Core.Bool.{Bool, true, cond}
-use mathlib.Core.Option
-use mathlib.Core.Option.{Option, none, some}
+use Rattle.std.specs.Option.{option_map}
 use mathlib.Core.List.{List, [], ◌∷◌, map}
 use borrow.Author.Tests.{lt-ltb, le-ltb}
 use lib.Dec.{eqb}
@@ -97,7 +97,7 @@ abbrev message : iso.Message Opening In
 message = record { header = 1; subs = iso.opens asking ∷ [] }
 
 abbrev session : (f : Agent → Hosted → Stepped) (later : List Hosted)
-    → (claim.works_on R (λ t. none) (A.host_call client)).0 ≡ some message → claim.status_at R 0 (claim.outs_of R (f A.empty client).1) ≡ some 1
+    → (claim.works_on R (λ t. None) (A.host_call client)).0 ≡ Some message → claim.status_at R 0 (claim.outs_of R (f A.empty client).1) ≡ Some 1
     → claim.Session R (stepping f) (client ∷ later)
 session f later b g =
     record { before = []; call = client; later = later; whole = refl; message = message; number = 0; client = asking; behind = []; id = 1; brings = b; asks = refl; granted = g }
@@ -106,7 +106,7 @@ session f later b g =
 
 -- takes every call, and does nothing
 abbrev idle : Agent → Hosted → Stepped
-idle st e = (st, iso.ran [] none)
+idle st e = (st, iso.ran [] None)
 
 -- "one that leaves all tables untouched"
 abbrev untouched : Agent → Hosted → Stepped
@@ -130,11 +130,11 @@ first_of (gives m) = gives (m.0, take 1 m.1)
 first_of (refused_as number byte) = refused_as number byte
 
 abbrev first_stepped : Option Open → Agent → Event → List ℕ → Did
-first_stepped none st (datagram given bytes) out = begin st out given (first_of (reading bytes))
-first_stepped none st (answer a) out = step st (answer a) out
-first_stepped none st (removal id) out = step st (removal id) out
-first_stepped none st (sweep now) out = step st (sweep now) out
-first_stepped (some w) st e out = step st e out
+first_stepped None st (datagram given bytes) out = begin st out given (first_of (reading bytes))
+first_stepped None st (answer a) out = step st (answer a) out
+first_stepped None st (removal id) out = step st (removal id) out
+first_stepped None st (sweep now) out = step st (sweep now) out
+first_stepped (Some w) st e out = step st e out
 
 abbrev first_only : Agent → Hosted → Stepped
 first_only st e = let d = first_stepped st.waits st e.event e.out in (d.agent, result_of always 1 9 d.agent.waits d.result)
@@ -144,7 +144,7 @@ abbrev forgot : Open → Open
 forgot w = record { session = w.session; pending = w.pending; rest = [] }
 
 abbrev forgetful : Agent → Hosted → Stepped
-forgetful st e = let r = A.step st e in (with_tables r.0 r.0.tables (Option.map forgot r.0.waits), r.1)
+forgetful st e = let r = A.step st e in (with_tables r.0 r.0.tables (option_map forgot r.0.waits), r.1)
 
 -- "refusal of every datagram": here, of every call
 abbrev refusing : Agent → Hosted → Stepped
@@ -168,12 +168,12 @@ pub record ShutOut : Type 0 where
   pub refusing_passes : claim.Term3 R (stepping refusing) (handles_of always 9)
   -- Term 2 stops them: the code's answer is that of `step`, which opens session 1 where the STATUS has room; nor is "table full" said to this first client.
   pub client_granted : (max timeout : ℕ) (is_open : ℕ → ℕ → Bool) (given : Given) (out : List ℕ) → 0 < max → 11 ≤ length out → is_minute given.day given.minute ≡ true
-      → (step (empty_agent max timeout is_open) (datagram given client_bytes_lem) out).result ≡ ran (opened (some 1) ∷ []) none
+      → (step (empty_agent max timeout is_open) (datagram given client_bytes_lem) out).result ≡ ran (opened (Some 1) ∷ []) None
 
 -- what the traces of an agent and of a machine are told apart by: whether the session is live; the code of a first STATUS; the number of replies
 abbrev liveness : Option Local → ℕ
-liveness none = 0
-liveness (some l) = 1
+liveness None = 0
+liveness (Some l) = 1
 
 abbrev first_code : List (List ℕ) → ℕ
 first_code [] = 0

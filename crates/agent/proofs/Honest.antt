@@ -1,8 +1,8 @@
 -- The rules are honest about handles: a call has handles of the session's own objects only, and a handle is listed only where a CREATE got it.
+use Rattle.std.specs.Prelude.{Option, None, Some}
 use mathlib.Core.Bool.{Bool}
 use mathlib.Core.Path.{◌≡◌, refl, ap, ◌∙◌}
 use Prim.Native.Nat.{ℕ}
-use mathlib.Core.Option.{Option, none, some}
 use mathlib.Core.Logic.{◌⊎◌, inl, inr}
 use mathlib.Core.List.Memᴰ
 use mathlib.Core.List.{List, [], ◌∷◌, ◌++◌, Memᴰ}
@@ -63,16 +63,16 @@ module _ (is_open : ℕ → ℕ → Bool) (timeout : ℕ) where
     abbrev l : Local
     l = touched time b
 
-    handle_fair : (x : Option ℕ) (f : ℕ → Move) (other : Move) → ((h : ℕ) → x ≡ some h → Good b (f h)) → Good b other → Good b (if_handle x f other)
-    handle_fair none f other p q = q
-    handle_fair (some h) f other p q = p h refl
+    handle_fair : (x : Option ℕ) (f : ℕ → Move) (other : Move) → ((h : ℕ) → x ≡ Some h → Good b (f h)) → Good b other → Good b (if_handle x f other)
+    handle_fair None f other p q = q
+    handle_fair (Some h) f other p q = p h refl
 
     kept : (y : ℕ × ℕ) → Memᴰ y (handles_held b.objects) → Memᴰ y (handles_held b.objects)
     kept y m = m
 
-    handles_fair : (x : Option (ℕ × ℕ)) (f : ℕ → ℕ → Move) (other : Move) → ((h k : ℕ) → x ≡ some (h, k) → Good b (f h k)) → Good b other → Good b (if_handles x f other)
-    handles_fair none f other p q = q
-    handles_fair (some hs) f other p q = p hs.0 hs.1 refl
+    handles_fair : (x : Option (ℕ × ℕ)) (f : ℕ → ℕ → Move) (other : Move) → ((h k : ℕ) → x ≡ Some (h, k) → Good b (f h k)) → Good b other → Good b (if_handles x f other)
+    handles_fair None f other p q = q
+    handles_fair (Some hs) f other p q = p hs.0 hs.1 refl
 
     -- a call with the handles of the Participant and the Topic that a parent number names
     with_fair : (kind : ObjectKind) (stream number parent : ℕ) (call : ℕ → ℕ → Call) → ((h k : ℕ) → handles_in (call h k) ≡ h ∷ k ∷ []) → Good b (create_with kind stream number parent call l)
@@ -86,20 +86,20 @@ module _ (is_open : ℕ → ℕ → Bool) (timeout : ℕ) where
 
     -- a Topic's call has its parent's handle
     named_fair : (x : Option Names) (stream number parent : ℕ) → Good b (create_named x stream number parent l)
-    named_fair none stream number parent = kept
-    named_fair (some x) stream number parent = handle_fair (handle_at parent l) _ _ (λ h e. (kept, kept, one_handle b h (find_held b.objects parent h e))) kept
+    named_fair None stream number parent = kept
+    named_fair (Some x) stream number parent = handle_fair (handle_at parent l) _ _ (λ h e. (kept, kept, one_handle b h (find_held b.objects parent h e))) kept
 
     create_fair : (kind : ObjectKind) (stream number parent : ℕ) (body : List ℕ) → Good b (create_for kind stream number parent body l)
     create_fair Participant stream number parent body = (kept, kept, no_handle b)
     create_fair Topic stream number parent body = named_fair (names_of body) stream number parent
-    create_fair Publisher stream number parent body = λ y m. put_held b.objects (record { number = number; kind = 3; handle = none; parent = parent }) y m
-    create_fair Subscriber stream number parent body = λ y m. put_held b.objects (record { number = number; kind = 4; handle = none; parent = parent }) y m
+    create_fair Publisher stream number parent body = λ y m. put_held b.objects (record { number = number; kind = 3; handle = None; parent = parent }) y m
+    create_fair Subscriber stream number parent body = λ y m. put_held b.objects (record { number = number; kind = 4; handle = None; parent = parent }) y m
     create_fair DataWriter stream number parent body = with_fair DataWriter stream number parent create_writer (λ h k. refl)
     create_fair DataReader stream number parent body = with_fair DataReader stream number parent create_reader (λ h k. refl)
 
     delete_fair : (stream number : ℕ) (x : Option Entry) → find_in b.objects number ≡ x → Good b (delete_found stream number x l)
-    delete_fair stream number none e = kept
-    delete_fair stream number (some o) e =
+    delete_fair stream number None e = kept
+    delete_fair stream number (Some o) e =
         either (Good b) (dependant_in b.objects o) _ _ kept
         (handle_fair o.handle _ _
         (λ h q. ((λ y m. drop_held b.objects number y m), kept, one_handle b h (find_held b.objects number h (rw e q)))) (λ y m. drop_held b.objects number y m))
@@ -114,7 +114,7 @@ module _ (is_open : ℕ → ℕ → Bool) (timeout : ℕ) where
     submessage_fair may (WriteData p) body stream = let n = p.writer_id.0 in handle_fair (handle_at n l) _ _ (λ h e. either (Good b) may _ _ (kept, kept, one_handle b h (find_held b.objects n h e)) kept) kept
     submessage_fair may (ReadData p) body stream =
         let n = p.reader_id.0 in
-        let own : (h : ℕ) → handle_at n l ≡ some h → Uses b (read_data h) = λ h e. one_handle b h (find_held b.objects n h e) in
+        let own : (h : ℕ) → handle_at n l ≡ Some h → Uses b (read_data h) = λ h e. one_handle b h (find_held b.objects n h e) in
         read_cases (Good b) stream n l kept (λ h e z. (kept, kept, own h e)) kept kept (λ h e k f. (kept, kept, own h e))
     submessage_fair may (Data p) body stream = kept
     submessage_fair may (Heartbeat p) body stream = kept
@@ -123,12 +123,12 @@ module _ (is_open : ℕ → ℕ → Bool) (timeout : ℕ) where
 
   -- a DATA reply that is held changes the streams alone
   sample_fair : (l : Local) (stream number : ℕ) (d : List ℕ) (x : Option KeptStream) → Good l (sample_on stream number d x l)
-  sample_fair l stream number d none = λ y m. m
-  sample_fair l stream number d (some k) = λ y m. m
+  sample_fair l stream number d None = λ y m. m
+  sample_fair l stream number d (Some k) = λ y m. m
 
   answer_fair : (l : Local) (stream number : ℕ) (t : Task) (a : Answer)
       → FairOne l (granted_by t number a ++ handles_held l.objects) (answer_of t stream number a l)
-  answer_fair l stream number (creating kind parent) (created h) = λ y m. put_held l.objects (record { number = number; kind = kind; handle = some h; parent = parent }) y m
+  answer_fair l stream number (creating kind parent) (created h) = λ y m. put_held l.objects (record { number = number; kind = kind; handle = Some h; parent = parent }) y m
   answer_fair l stream number (creating kind parent) succeeded = λ y m. m
   answer_fair l stream number (creating kind parent) (sample d) = λ y m. m
   answer_fair l stream number (creating kind parent) no_sample = λ y m. m

@@ -1,8 +1,8 @@
 -- W8's promise, proved: WRITE_DATA reaches the bridge exactly in an open minute.
+use Rattle.std.specs.Prelude.{Option, None, Some}
 use Prim.Native.Nat.{ℕ}
 use mathlib.Core.Path.{◌≡◌, refl}
 use mathlib.Core.Bool.{Bool, true, false, cond}
-use mathlib.Core.Option.{Option, none, some}
 use mathlib.Core.List.{List, []}
 use Rattle.codec.specs.declared.submessages.WriteDataPayload.{WriteDataPayload}
 use Rattle.codec.specs.declared.submessages.StatusCode.TheVariants.{ErrUnknownRef, ErrIncompatible}
@@ -41,7 +41,7 @@ module _ (ws : List Window) (g : Given) (stream : ℕ) (p : WriteDataPayload) (b
 pub quiet_hours : QuietHours
 unfolding onto
 quiet_hours ws g stream p body l = record {
-  open_calls = λ h e k. by_both ws g stream p body l (some h) true e ((open_exactly ws g.day g.minute).1 k);
-  closed_answers = λ h e n. by_both ws g stream p body l (some h) false e (closed_when ws g stream p body l (is_open ws g.day g.minute) refl n);
-  unknown = λ e. by_both ws g stream p body l none (is_open ws g.day g.minute) e refl;
+  open_calls = λ h e k. by_both ws g stream p body l (Some h) true e ((open_exactly ws g.day g.minute).1 k);
+  closed_answers = λ h e n. by_both ws g stream p body l (Some h) false e (closed_when ws g stream p body l (is_open ws g.day g.minute) refl n);
+  unknown = λ e. by_both ws g stream p body l None (is_open ws g.day g.minute) e refl;
 }

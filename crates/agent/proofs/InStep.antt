@@ -1,9 +1,9 @@
 -- The agent goes in step with `isolation`'s reference agent over the same rules: the same runs, and 15, 20, 12, 14 and 13 refused besides.
+use Rattle.std.specs.Prelude.{Option, None, Some}
 use mathlib.Core.Path.{◌≡◌, refl, sym, ap, ◌∙◌, subst}
 use Prim.Native.Nat.{ℕ, zero, suc, ◌+◌}
 use mathlib.Core.Bool.{Bool, true, false, cond}
-use mathlib.Core.Option
-use mathlib.Core.Option.{Option, none, some}
+use Rattle.std.specs.Option.{option_map}
 use mathlib.Core.Logic.{◌⊎◌, inl, inr}
 use mathlib.Core.List.{List, [], ◌∷◌, ◌++◌, map}
 use native.Mathlib.Omega.{arith}
@@ -52,7 +52,7 @@ module _ (is_open : ℕ → ℕ → Bool) (max timeout : ℕ) where
   wait_of w = record { header = w.session; pending = w.pending; rest = w.rest }
 
   abbrev pub state_of : Agent → ref.State R D
-  state_of st = record { tables = tables_of st.tables; wait = Option.map wait_of st.waits }
+  state_of st = record { tables = tables_of st.tables; wait = option_map wait_of st.waits }
 
   abbrev outs : List Reply → List (iso.Out R)
   outs rs = map (out_of is_open max timeout) rs
@@ -61,13 +61,13 @@ module _ (is_open : ℕ → ℕ → Bool) (max timeout : ℕ) where
   asked x = asked_of is_open max timeout (open_of x) (call_of x)
 
   abbrev ran_of : Ran → ref.Ran R D
-  ran_of r = record { tables = tables_of r.tables; wait = Option.map wait_of (open_of r.stop); outs = outs r.replies; call = asked r.stop }
+  ran_of r = record { tables = tables_of r.tables; wait = option_map wait_of (open_of r.stop); outs = outs r.replies; call = asked r.stop }
 
   -- ---- a run
 
   live_length : (x : Option Local) (ls : List Local) → length (ref.here R D x ++ ls) ≡ cond (absent x) 0 1 + length ls
-  live_length none ls = omega arith
-  live_length (some l) ls = omega arith
+  live_length None ls = omega arith
+  live_length (Some l) ls = omega arith
 
   live_same : (at : ℕ → Option Local) (i n : ℕ) → length (ref.live R D at (ref.ids R D i n)) ≡ live_from (λ i. absent (at i)) i n
   unfolding ref.live ref.ids live_from
@@ -80,9 +80,9 @@ module _ (is_open : ℕ → ℕ → Bool) (max timeout : ℕ) where
   free_same at i (suc n) = go (at i) (free_same at (after i) n)
     where
       go : (x : Option Local) → next_free at (after i) n ≡ ref.free R D n (after i) at
-          → ◌≡◌ {A = Option ℕ} (elim x [ none ↦ some i | some l ↦ next_free at (after i) n ]) (elim x [ none ↦ some i | some l ↦ ref.free R D n (after i) at ])
-      go none e = refl
-      go (some l) e = e
+          → ◌≡◌ {A = Option ℕ} (elim x [ None ↦ Some i | Some l ↦ next_free at (after i) n ]) (elim x [ None ↦ Some i | Some l ↦ ref.free R D n (after i) at ])
+      go None e = refl
+      go (Some l) e = e
 
   chosen_same : (o : Opening) (t : Tables) → chosen max t ≡ ref.chosen R D o (tables_of t)
   unfolding chosen ref.chosen
@@ -98,8 +98,8 @@ module _ (is_open : ℕ → ℕ → Bool) (max timeout : ℕ) where
 
   deliver_same : (id : ℕ) (rest : List (iso.Sub Opening In)) (t : Tables) (x : Option Local) (rule : Local → Working) (f : Tables → Ran) (g : ref.Tables R D → ref.Ran R D)
       → ((t : Tables) → ran_of (f t) ≡ g (tables_of t)) → ran_of (deliver id rest t x rule f) ≡ ref.deliver R D id rest (tables_of t) x rule g
-  deliver_same id rest t none rule f g e = e t
-  deliver_same id rest t (some l) rule f g e = go (rule l)
+  deliver_same id rest t None rule f g e = e t
+  deliver_same id rest t (Some l) rule f g e = go (rule l)
     where
       go : (m : Working) → ran_of (act id rest t m f) ≡ ref.act R D id rest (tables_of t) m g
       go (iso.done l' bs) =
@@ -120,8 +120,8 @@ module _ (is_open : ℕ → ℕ → Bool) (max timeout : ℕ) where
       go x y e k = subst (λ (y : Option ℕ). ran_of (behind (opened x ∷ []) (run max id ss (open_as o t x))) ≡ ref.tell R D (iso.opened y (client_bytes y) ∷ []) (ref.run R D id ss (ref.open_as_lem R D o (tables_of t) y))) e (same x)
         where
           same : (x : Option ℕ) → ran_of (behind (opened x ∷ []) (run max id ss (open_as o t x))) ≡ ref.tell R D (iso.opened x (client_bytes x) ∷ []) (ref.run R D id ss (ref.open_as_lem R D o (tables_of t) x))
-          same none = ap (λ (q : ref.Ran R D). ref.tell R D (iso.opened none (client_bytes none) ∷ []) q) (k t)
-          same (some i) = ap (λ (q : ref.Ran R D). ref.tell R D (iso.opened (some i) (client_bytes (some i)) ∷ []) q) (k (open_as o t (some i)))
+          same None = ap (λ (q : ref.Ran R D). ref.tell R D (iso.opened None (client_bytes None) ∷ []) q) (k t)
+          same (Some i) = ap (λ (q : ref.Ran R D). ref.tell R D (iso.opened (Some i) (client_bytes (Some i)) ∷ []) q) (k (open_as o t (Some i)))
   run_same id (iso.names i ∷ ss) t = deliver_same id ss t (t.at id) (λ l. handle l i) (λ t'. run max id ss t') (λ t'. ref.run R D id ss t') (λ t'. run_same id ss t')
 
   continued_same : (w : Open) (a : Answer) (t : Tables) → ran_of (continued max w a t) ≡ ref.continue R D (wait_of w) a (tables_of t)
@@ -161,44 +161,44 @@ module _ (is_open : ℕ → ℕ → Bool) (max timeout : ℕ) where
   made t w = record { max = max; timeout = timeout; is_open = is_open; tables = t; waits = w }
 
   begin_goes : (t : Tables) (out : List ℕ) (given : Given) (x : Read (MessageHeader × List Said))
-      → let st = made t none in Goes st (begin st out given x) (ref.begin R D (state_of st) (parsed_as (moment_of is_open given) x))
-  begin_goes t out given (refused_as number byte) = refuse_goes (made t none) out number byte (ref.begin R D (state_of (made t none)) none)
+      → let st = made t None in Goes st (begin st out given x) (ref.begin R D (state_of st) (parsed_as (moment_of is_open given) x))
+  begin_goes t out given (refused_as number byte) = refuse_goes (made t None) out number byte (ref.begin R D (state_of (made t None)) None)
   begin_goes t out given (gives x) =
       let m = message_from (moment_of is_open given) x.0 x.1 in
-      settle_goes (made t none) out (run max m.header m.subs t) (ref.run R D m.header m.subs (tables_of t)) (run_same m.header m.subs t)
+      settle_goes (made t None) out (run max m.header m.subs t) (ref.run R D m.header m.subs (tables_of t)) (run_same m.header m.subs t)
 
   stays_same : (now : ℕ) (x : Option Local) → stays timeout now x ≡ ref.stays R D now x
-  stays_same now none = refl
-  stays_same now (some l) = refl
+  stays_same now None = refl
+  stays_same now (Some l) = refl
 
-  stepped_goes : (t : Tables) (w : Option Open) (e : Event) (out : List ℕ) → let st = made t w in Goes st (stepped w st e out) (ref.stepped R D (Option.map wait_of w) (state_of st) (host_call is_open max timeout e))
-  stepped_goes t none (datagram given bytes) out = go (is_minute given.day given.minute)
+  stepped_goes : (t : Tables) (w : Option Open) (e : Event) (out : List ℕ) → let st = made t w in Goes st (stepped w st e out) (ref.stepped R D (option_map wait_of w) (state_of st) (host_call is_open max timeout e))
+  stepped_goes t None (datagram given bytes) out = go (is_minute given.day given.minute)
     where
       st : Agent
-      st = made t none
+      st = made t None
 
       go : (b : Bool) → Goes st (cond b (begin st out given (reading bytes)) (refuse st out 20 0)) (ref.begin R D (state_of st) (parsed_as (moment_of is_open given) (reading bytes)))
       go true = begin_goes t out given (reading bytes)
       go false = refuse_goes st out 20 0 _
-  stepped_goes t none (answer a) out = refuse_goes (made t none) out 15 0 _
-  stepped_goes t none (removal id) out = finish_goes (made t none) out (with_locals (made t none) (with_id id none t.at)) [] (removed (is_live (t.at id))) _ refl refl (refl, refl, refl)
-  stepped_goes t none (sweep now) out =
+  stepped_goes t None (answer a) out = refuse_goes (made t None) out 15 0 _
+  stepped_goes t None (removal id) out = finish_goes (made t None) out (with_locals (made t None) (with_id id None t.at)) [] (removed (is_live (t.at id))) _ refl refl (refl, refl, refl)
+  stepped_goes t None (sweep now) out =
       let ids = lapsed_ids timeout now t.at in
-      finish_goes (made t none) out (with_locals (made t none) (λ i. stays timeout now (t.at i))) ids (swept ids)
-      (ref.stepped R D none (state_of (made t none)) (iso.sweep now)) (λ j. record { tables = record { next = t.next; at = λ i. stays_same now (t.at i) j }; wait = none }) refl (refl, refl, refl)
-  stepped_goes t (some w) (datagram given bytes) out = refuse_goes (made t (some w)) out 15 0 _
-  stepped_goes t (some w) (answer a) out = go (fits w.pending.asked.task a) (too_long w.pending.asked a) (over_held w a t)
+      finish_goes (made t None) out (with_locals (made t None) (λ i. stays timeout now (t.at i))) ids (swept ids)
+      (ref.stepped R D None (state_of (made t None)) (iso.sweep now)) (λ j. record { tables = record { next = t.next; at = λ i. stays_same now (t.at i) j }; wait = None }) refl (refl, refl, refl)
+  stepped_goes t (Some w) (datagram given bytes) out = refuse_goes (made t (Some w)) out 15 0 _
+  stepped_goes t (Some w) (answer a) out = go (fits w.pending.asked.task a) (too_long w.pending.asked a) (over_held w a t)
     where
       st : Agent
-      st = made t (some w)
+      st = made t (Some w)
 
       go : (b c d : Bool) → Goes st (cond b (cond c (refuse st out 12 0) (cond d (refuse st out 14 0) (settle st out (continued max w a t)))) (refuse st out 15 0)) (ref.settle R D (ref.continue R D (wait_of w) a (tables_of t)))
       go true true d = refuse_goes st out 12 0 _
       go true false true = refuse_goes st out 14 0 _
       go true false false = settle_goes st out (continued max w a t) (ref.continue R D (wait_of w) a (tables_of t)) (continued_same w a t)
       go false c d = refuse_goes st out 15 0 _
-  stepped_goes t (some w) (removal id) out = refuse_goes (made t (some w)) out 15 0 _
-  stepped_goes t (some w) (sweep now) out = refuse_goes (made t (some w)) out 15 0 _
+  stepped_goes t (Some w) (removal id) out = refuse_goes (made t (Some w)) out 15 0 _
+  stepped_goes t (Some w) (sweep now) out = refuse_goes (made t (Some w)) out 15 0 _
 
   abbrev pub Inv : Agent → Type 0
   Inv st = (st.max ≡ max) × (st.timeout ≡ timeout) × (st.is_open ≡ is_open)
@@ -207,11 +207,11 @@ module _ (is_open : ℕ → ℕ → Bool) (max timeout : ℕ) where
   unfolding step ref.step
   step_goes st e out (p, q, o) =
       subst (λ (m : ℕ). let st' : Agent = record { max = m; timeout = st.timeout; is_open = st.is_open; tables = st.tables; waits = st.waits } in
-      Goes st' (stepped st.waits st' e out) (ref.stepped R D (Option.map wait_of st.waits) (state_of st) (host_call is_open max timeout e))) (sym p)
+      Goes st' (stepped st.waits st' e out) (ref.stepped R D (option_map wait_of st.waits) (state_of st) (host_call is_open max timeout e))) (sym p)
       (subst (λ (s : ℕ). let st' : Agent = record { max = max; timeout = s; is_open = st.is_open; tables = st.tables; waits = st.waits } in
-      Goes st' (stepped st.waits st' e out) (ref.stepped R D (Option.map wait_of st.waits) (state_of st) (host_call is_open max timeout e))) (sym q)
+      Goes st' (stepped st.waits st' e out) (ref.stepped R D (option_map wait_of st.waits) (state_of st) (host_call is_open max timeout e))) (sym q)
       (subst (λ (f : ℕ → ℕ → Bool). let st' : Agent = record { max = max; timeout = timeout; is_open = f; tables = st.tables; waits = st.waits } in
-      Goes st' (stepped st.waits st' e out) (ref.stepped R D (Option.map wait_of st.waits) (state_of st) (host_call is_open max timeout e))) (sym o)
+      Goes st' (stepped st.waits st' e out) (ref.stepped R D (option_map wait_of st.waits) (state_of st) (host_call is_open max timeout e))) (sym o)
       (stepped_goes st.tables st.waits e out)))
 
   pub in_step : (st : Agent) (e : Hosted) → Inv st → InStep R A B state_of st e

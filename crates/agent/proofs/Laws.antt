@@ -1,8 +1,8 @@
 -- Laws of the step: a refused call leaves everything as it was, and the output keeps its length; how long a STATUS and an ACKNACK are.
+use Rattle.std.specs.Prelude.{Option, None, Some}
 use mathlib.Core.Path.{◌≡◌, refl}
 use Prim.Native.Nat.{ℕ, ◌+◌, ◌≤◌}
 use mathlib.Core.Bool.{Bool, true, false, cond}
-use mathlib.Core.Option.{Option, none, some}
 use mathlib.Core.List.{List, [], ◌++◌}
 use native.Mathlib.Omega.{arith}
 use borrow.Author.Tests.{ltb-false}
@@ -67,26 +67,26 @@ begin_keeps st out given (refused_as number byte) = refuse_keeps st out number b
 begin_keeps st out given (gives x) = let m = message_from (moment_of st.is_open given) x.0 x.1 in settle_keeps st out (run st.max m.header m.subs st.tables)
 
 stepped_keeps : (w : Option Open) (st : Agent) (e : Event) (out : List ℕ) → Kept st out (stepped w st e out)
-stepped_keeps none st (datagram given bytes) out = go (is_minute given.day given.minute)
+stepped_keeps None st (datagram given bytes) out = go (is_minute given.day given.minute)
   where
     go : (b : Bool) → Kept st out (cond b (begin st out given (reading bytes)) (refuse st out 20 0))
     go true = begin_keeps st out given (reading bytes)
     go false = refuse_keeps st out 20 0
-stepped_keeps none st (answer a) out = refuse_keeps st out 15 0
-stepped_keeps none st (removal id) out = finish_keeps st out (with_locals st (with_id id none st.tables.at)) [] (removed (is_live (st.tables.at id))) refl
-stepped_keeps none st (sweep now) out =
+stepped_keeps None st (answer a) out = refuse_keeps st out 15 0
+stepped_keeps None st (removal id) out = finish_keeps st out (with_locals st (with_id id None st.tables.at)) [] (removed (is_live (st.tables.at id))) refl
+stepped_keeps None st (sweep now) out =
     let ids = lapsed_ids st.timeout now st.tables.at in
     finish_keeps st out (with_locals st (λ i. stays st.timeout now (st.tables.at i))) ids (swept ids) refl
-stepped_keeps (some w) st (datagram given bytes) out = refuse_keeps st out 15 0
-stepped_keeps (some w) st (answer a) out = go (fits w.pending.asked.task a) (too_long w.pending.asked a) (over_held w a st.tables)
+stepped_keeps (Some w) st (datagram given bytes) out = refuse_keeps st out 15 0
+stepped_keeps (Some w) st (answer a) out = go (fits w.pending.asked.task a) (too_long w.pending.asked a) (over_held w a st.tables)
   where
     go : (b c d : Bool) → Kept st out (cond b (cond c (refuse st out 12 0) (cond d (refuse st out 14 0) (settle st out (continued st.max w a st.tables)))) (refuse st out 15 0))
     go true true d = refuse_keeps st out 12 0
     go true false true = refuse_keeps st out 14 0
     go true false false = settle_keeps st out (continued st.max w a st.tables)
     go false c d = refuse_keeps st out 15 0
-stepped_keeps (some w) st (removal id) out = refuse_keeps st out 15 0
-stepped_keeps (some w) st (sweep now) out = refuse_keeps st out 15 0
+stepped_keeps (Some w) st (removal id) out = refuse_keeps st out 15 0
+stepped_keeps (Some w) st (sweep now) out = refuse_keeps st out 15 0
 
 pub refused_keeps : (st : Agent) (e : Event) (out : List ℕ) (number byte : ℕ) → (step st e out).result ≡ refused number byte → ((step st e out).agent ≡ st) × ((step st e out).out ≡ out)
 unfolding step

@@ -7,10 +7,6 @@ use native.Mathlib.Omega.{arith}
 use lib.ListN.{length}
 use Rattle.codec.specs.Reading.{read_at}
 use Rattle.codec.specs.Rebuilt.{rebuilt_of}
-use Rattle.codec.specs.declared.layouts.Parsed.{Parsed}
-use Rattle.codec.specs.declared.layouts.Parsed.TheVariants as parsed
-use Rattle.codec.specs.declared.rebuilt.Rebuilt.{Rebuilt}
-use Rattle.codec.specs.declared.rebuilt.Rebuilt.TheVariants as rebuilt
 use Rattle.sessions.specs.Table.{named_of}
 use Rattle.sessions.specs.View.{Tables}
 use Rattle.moves.specs.Rows.{Rows, asks_of}
@@ -18,12 +14,10 @@ use Rattle.moves.specs.declared.handle.Opening.{Opening}
 use Rattle.moves.specs.declared.handle.Opening.TheVariants.{Client, Fragment, Other, Unread}
 use Rattle.agent.specs.Lent.{lent, rows_of, with_rows, rebuilt_part}
 use Rattle.agent.specs.Step.{Reply}
-use Rattle.agent.specs.Run.{Turned, Acted, count_replies, put_replies, is_live, passed, taken_of, delivered, inside_by, inside_turned, work_in, work_at, left_by, with_acted, fragment_turned, sub_turned, turned, goes_on, before, run_at}
-use Rattle.agent.specs.Legs.{step_of, plain_leg, Led, led_by, led, is_kept, is_entering, leads_on, leg_in, leg_at, leg_turned, kept_by, kept_in}
+use Rattle.agent.specs.Run.{Turned, Acted, count_replies, put_replies, is_live, passed, taken_of, delivered, inside_by, inside_turned, work_in, work_at, left_by, with_acted, gathers, gathered_len, fragment_turned, sub_turned, turned, goes_on, before, run_at}
+use Rattle.agent.specs.Legs.{step_of, plain_leg, Led, led_by, led, is_kept, is_entering, leads_on, leg_in, leg_at, leg_turned, kept_by}
 use Rattle.agent.specs.declared.leg.Mode.{Mode}
 use Rattle.agent.specs.declared.leg.Mode.TheVariants.{Datagram, Rebuilt as RebuiltOnes}
-use Rattle.agent.specs.declared.leg.Found.{Found}
-use Rattle.agent.specs.declared.leg.Found.TheVariants as found
 use Rattle.agent.specs.declared.leg.Leg.{Leg}
 use Rattle.agent.specs.declared.leg.Step.{Step as Way}
 use Rattle.agent.specs.declared.leg.Step.TheVariants.{Greets, Keeps, Delivers, Passes}
@@ -34,15 +28,19 @@ use Rattle.agent.proofs.Acknacks.{read_says_lem}
 use Rattle.agent.proofs.Counted.{count_behind, put_replies_behind}
 use Rattle.agent.proofs.Loops.{Loop, whole_told, whole_further, whole_ended, Steps, steps_of, Left, left_again, left_end}
 use Rattle.agent.proofs.Turns.{Leaves, passed_leaves, opening_leaves, delivered_leaves, fragment_leaves, goes_within}
-use Rattle.agent.proofs.Running.{idle, run_end, run_more, fragment_held}
-use Rattle.agent.proofs.Written.{gathers, gathered_len}
+use Rattle.agent.proofs.Running.{run_end, run_more}
+use Rattle.std.specs.Prelude.{Err, None, Ok, Option, Result, Some}
+use Rattle.codec.specs.declared.layouts.Cursor.{Cursor}
+use Rattle.codec.specs.declared.refusals.Refusal.{Refusal}
+use Rattle.codec.specs.declared.layouts.Span.{Span}
+use Rattle.codec.specs.declared.submessages.Submessage.{Submessage}
 
 -- ---- one submessage
 
 -- the place behind the FRAGMENT that ends a leg, else the run's
-abbrev place_of : Found → ℕ → ℕ
-place_of found.Nothing at = at
-place_of (found.Fragment y) at = y.at
+abbrev place_of : Option Taken → ℕ → ℕ
+place_of None at = at
+place_of (Some y) at = y.at
 
 module _ (f : Frame) (t : Rows) (h s : List ℕ) (r : Ran) (x : Taken) where
   pub way_leaves : (k : Way) → Leaves f r x.at (led_by k f t h s r x).leg.ran (led_by k f t h s r x).replies
@@ -66,14 +64,14 @@ pub leads : (m : Mode) (f : Frame) (t : Rows) (h s : List ℕ) (r : Ran) → r.a
 unfolding led
 leads m f t h s r l = go (read_at s r.at) refl
   where
-    go : (q : Parsed) → read_at s r.at ≡ q → Leads f s r (led_by (step_of m (taken_of q (length s)).asked.opening) f t h s r (taken_of q (length s)))
-    go (parsed.Sub y x c) e =
-        let k = way_leaves f t h s r (taken_of (parsed.Sub y x c) (length s)) (step_of m (asks_of y).opening) in
+    go : (q : Result (Submessage × Span × Cursor) Refusal) → read_at s r.at ≡ q → Leads f s r (led_by (step_of m (taken_of q (length s)).asked.opening) f t h s r (taken_of q (length s)))
+    go (Ok (y, x, c)) e =
+        let k = way_leaves f t h s r (taken_of (Ok (y, x, c)) (length s)) (step_of m (asks_of y).opening) in
         let said = read_says_lem s r.at y x c e in
         let p = k.place in
         let n = said.next in
         record { ahead = omega (arith, n, p); told = k.told }
-    go (parsed.Refused x) e = record { ahead = l; told = (passed_leaves f r (length s)).told }
+    go (Err x) e = record { ahead = l; told = (passed_leaves f r (length s)).told }
 
 led_placed : (m : Mode) (f : Frame) (t : Rows) (h s : List ℕ) (r : Ran) → place_of (led m f t h s r).leg.found (led m f t h s r).leg.ran.at ≡ (led m f t h s r).leg.ran.at
 unfolding led
@@ -100,10 +98,10 @@ as_led room out out' at x y e written = (
 -- what a leg works over, and the FRAGMENT that has ended it
 pub record Stage : Type 0 where
   pub rows : Rows
-  pub found : Found
+  pub found : Option Taken
 
 abbrev pub staged : Rows → Stage
-staged t = record { rows = t; found = found.Nothing }
+staged t = record { rows = t; found = None }
 
 after_first : (b c : Bool) → cond b false c ≡ true → c ≡ true
 after_first true c e = absurd (true≢false (sym e))
@@ -270,9 +268,9 @@ module _ (f : Frame) (h s : List ℕ) where
 
 -- ---- a datagram's submessage is one of a leg, with the FRAGMENT behind it
 
-left_passed : (o : Rebuilt) (f : Frame) (h s : List ℕ) (n : ℕ) (r : Ran) (at : ℕ) (t : Rows) → left_by o f h s n r at t ≡ left_by o f h s n (passed r at) at t
-left_passed (rebuilt.Subs k) f h s n r at t = refl
-left_passed (rebuilt.Refused x) f h s n r at t = refl
+left_passed : (o : Result ℕ Refusal) (f : Frame) (h s : List ℕ) (n : ℕ) (r : Ran) (at : ℕ) (t : Rows) → left_by o f h s n r at t ≡ left_by o f h s n (passed r at) at t
+left_passed (Ok k) f h s n r at t = refl
+left_passed (Err x) f h s n r at t = refl
 
 module _ (f : Frame) (d : List ℕ) where
   abbrev kept : Led → Tables → Turned
@@ -316,18 +314,18 @@ module _ (f : Frame) (d : List ℕ) where
   abbrev further : ℕ → List ℕ → Led → Led
   further n h x = let y = leg_in n Datagram f h d x.leg x.rows in record { leg = y.leg; rows = y.rows; replies = x.replies ++ y.replies }
 
-  first_led : (n : ℕ) (t : Tables) (a : Ran) (g : Found) (w : Rows) (rs : List Reply)
+  first_led : (n : ℕ) (t : Tables) (a : Ran) (g : Option Taken) (w : Rows) (rs : List Reply)
       → run_at f d a (with_rows t w) ≡ rest (kept (leg_in n Datagram f t.held d (plain_leg a) w) t)
       → let x : Led = record { leg = record { ran = a; found = g }; rows = w; replies = rs } in rest (kept x t) ≡ rest (kept (further n t.held x) t)
-  first_led n t a found.Nothing w rs later =
+  first_led n t a None w rs later =
       let y = leg_in n Datagram f t.held d (plain_leg a) w in
       let k = kept_by y.leg.found f d y.leg.ran (with_rows t y.rows) in
       let q = run_at f d k.ran k.tables in
       let assoc = ap (λ (zs : List Reply). zs ++ q.replies) (append_assoc rs y.replies k.replies) ∙ append_assoc rs (y.replies ++ k.replies) q.replies in
       ap (λ (v : Turned). record { ran = v.ran; tables = v.tables; replies = (rs ++ []) ++ v.replies }) later
       ∙ ap (λ (zs : List Reply). record { ran = q.ran; tables = q.tables; replies = zs }) (ap (λ (zs : List Reply). zs ++ ((y.replies ++ k.replies) ++ q.replies)) (append-nil rs) ∙ sym assoc)
-  first_led n t a (found.Fragment u) w rs later =
-      let l : Leg = record { ran = a; found = found.Fragment u } in
+  first_led n t a (Some u) w rs later =
+      let l : Leg = record { ran = a; found = Some u } in
       ap (λ (zs : List Reply). rest (kept (record { leg = l; rows = w; replies = zs }) t)) (sym (append-nil rs))
       ∙ ap (λ (y : Led). rest (kept (record { leg = y.leg; rows = y.rows; replies = rs ++ y.replies }) t)) (sym (leg_rests n t.held l w refl))
 
@@ -355,9 +353,9 @@ module _ (f : Frame) (d : List ℕ) where
 
   -- ---- what a leg with the FRAGMENT behind it leaves
 
-  kept_leaves : (g : Found) (r : Ran) (t : Tables) → Leaves f r (place_of g r.at) (kept_by g f d r t).ran (kept_by g f d r t).replies
-  kept_leaves found.Nothing r t = passed_leaves f r r.at
-  kept_leaves (found.Fragment x) r t = fragment_leaves f t d r x
+  kept_leaves : (g : Option Taken) (r : Ran) (t : Tables) → Leaves f r (place_of g r.at) (kept_by g f d r t).ran (kept_by g f d r t).replies
+  kept_leaves None r t = passed_leaves f r r.at
+  kept_leaves (Some x) r t = fragment_leaves f t d r x
 
   pub strode_told : (r : Ran) (t : Tables) → (strode r t).ran.wrote ≡ count_replies f.room r.wrote (strode r t).replies
   strode_told r t =
@@ -403,12 +401,7 @@ module _ (f : Frame) (d : List ℕ) where
         told = λ r t e. strode_told r t;
       }
 
--- as the code takes it apart
-pub kept_if : (g : Found) (f : Frame) (d : List ℕ) (r : Ran) (t : Tables) → cond (kept_in g).kept (fragment_turned f t d r (kept_in g).took) (idle r t) ≡ kept_by g f d r t
-kept_if found.Nothing f d r t = refl
-kept_if (found.Fragment x) f d r t = refl
-
--- ---- what the loop of `run` keeps: the store of held messages is no part of what it changes
+-- ---- what the loop of `run` keeps
 
 module _ (f : Frame) (d : List ℕ) (start : Ran) (t : Tables) (out : List ℕ) (r : Ran) (t' : Tables) (w : List ℕ) where
   abbrev y : Led
@@ -417,36 +410,10 @@ module _ (f : Frame) (d : List ℕ) (start : Ran) (t : Tables) (out : List ℕ) 
   abbrev k : Turned
   k = kept_by y.leg.found f d y.leg.ran (with_rows t' y.rows)
 
-  kept_held : (g : Found) (a : Ran) (u : Tables) → (kept_by g f d a u).tables.held ≡ u.held
-  kept_held found.Nothing a u = refl
-  kept_held (found.Fragment x) a u = fragment_held f d u a x
-
-  abbrev ran_all : Turned
-  ran_all = run_at f d start t
-
-  abbrev Written : List ℕ → List ℕ → Type 0
-  Written h v = Left (run_steps f d) start t out k.ran (lent k.tables.sessions k.tables.streams k.tables.objects h k.tables.parts k.tables.lengths k.tables.rebuilt) v
-
   pub run_again : Left (run_steps f d) start t out r t' w → goes_on (length d) r ≡ true
-      → Written t'.held (put_replies f.room (put_replies f.room w r.wrote y.replies) y.leg.ran.wrote k.replies)
+      → Left (run_steps f d) start t out k.ran k.tables (put_replies f.room (put_replies f.room w r.wrote y.replies) y.leg.ran.wrote k.replies)
   run_again left e =
       let next = left_again (run_steps f d) start t out r t' w left e in
       let written = ap (λ (n : ℕ). put_replies f.room (put_replies f.room w r.wrote y.replies) n k.replies) (leg_told Datagram f t'.held d r (rows_of t'))
       ∙ sym (put_replies_behind f.room w r.wrote y.replies k.replies) in
-      subst (λ (h : List ℕ). Written h (put_replies f.room (put_replies f.room w r.wrote y.replies) y.leg.ran.wrote k.replies)) (kept_held y.leg.found y.leg.ran (with_rows t' y.rows)) (subst (Written k.tables.held) (sym written) next)
-
-  pub run_done : Left (run_steps f d) start t out r t' w → goes_on (length d) r ≡ false
-      → (r ≡ ran_all.ran) × (t'.sessions ≡ ran_all.tables.sessions) × (t'.streams ≡ ran_all.tables.streams) × (t'.objects ≡ ran_all.tables.objects)
-      × (t'.parts ≡ ran_all.tables.parts) × (t'.lengths ≡ ran_all.tables.lengths) × (t'.rebuilt ≡ ran_all.tables.rebuilt)
-      × (w ≡ put_replies f.room out start.wrote ran_all.replies)
-  run_done left e =
-      let (a, u, b) = left_end (run_steps f d) start t out r t' w left e in (
-        a,
-        ap (λ (z : Tables). z.sessions) u,
-        ap (λ (z : Tables). z.streams) u,
-        ap (λ (z : Tables). z.objects) u,
-        ap (λ (z : Tables). z.parts) u,
-        ap (λ (z : Tables). z.lengths) u,
-        ap (λ (z : Tables). z.rebuilt) u,
-        b,
-      )
+      subst (λ (v : List ℕ). Left (run_steps f d) start t out k.ran k.tables v) (sym written) next

@@ -9,8 +9,6 @@ use lib.Dec.{eqb, leb}
 use lib.ListN.{get_or, length, take, drop, length-take}
 use Rattle.codec.specs.Reading.{read_at, part_of, Item, items, onward, items_at}
 use Rattle.codec.specs.declared.layouts.Cursor.{Cursor}
-use Rattle.codec.specs.declared.layouts.Parsed.{Parsed}
-use Rattle.codec.specs.declared.layouts.Parsed.TheVariants as parsed
 use Rattle.codec.specs.declared.layouts.Span.{Span}
 use Rattle.codec.specs.declared.submessages.Submessage.{Submessage}
 use Rattle.codec.proofs.reading.Laws.{items_more}
@@ -28,6 +26,8 @@ use Rattle.agent.proofs.Turns.{none_long, goes_within, turns, turned_at, work_en
 use Rattle.agent.proofs.Running.{idle, run_told}
 use Rattle.agent.proofs.Acknacks.{item_first, one_at, asks_at, ids_read}
 use Rattle.agent.proofs.Sparse.{Sparse, turned_sparse, turned_silent, begun_sparse}
+use Rattle.std.specs.Prelude.{Err, Ok, Result}
+use Rattle.codec.specs.declared.refusals.Refusal.{Refusal}
 
 module _ (f : Frame) (d : List ℕ) where
   -- 12 bytes to a submessage at most, and 16,384 to an ACKNACK on a stream other than 0
@@ -37,7 +37,7 @@ module _ (f : Frame) (d : List ℕ) where
   abbrev asks_here : ℕ → ℕ
   asks_here at = cond (eqb f.stream_id 0) 0 (asks_at d at)
 
-  asks_more : (at : ℕ) (m : Submessage) (z : Span) (c : Cursor) → read_at d at ≡ parsed.Sub m z c → asks_from at ≡ asks_here at + asks_from c.at
+  asks_more : (at : ℕ) (m : Submessage) (z : Span) (c : Cursor) → read_at d at ≡ Ok (m, z, c) → asks_from at ≡ asks_here at + asks_from c.at
   asks_more at m z c e = go (eqb f.stream_id 0)
     where
       go : (b : Bool) → cond b 0 (ids_at 0x0E d at) ≡ cond b 0 (asks_at d at) + cond b 0 (ids_at 0x0E d c.at)
@@ -77,9 +77,9 @@ module _ (f : Frame) (d : List ℕ) where
       Rest = (zs : List Item) → items_at d x.ran.at ≡ items zs → Sparse f d x.tables.sessions x.ran.at
           → length (joined_replies y.replies) ≤ 12 * length zs + 16384 * asks_from x.ran.at
 
-      by : (q : Parsed) → read_at d r.at ≡ q → onward q (items_at d) ≡ items ys → r.at < length d → Rest
+      by : (q : Result (Submessage × Span × Cursor) Refusal) → read_at d r.at ≡ q → onward q (items_at d) ≡ items ys → r.at < length d → Rest
           → length (joined_replies (x.replies ++ y.replies)) ≤ 12 * length ys + 16384 * asks_from r.at
-      by (parsed.Sub m z c) e j h rest =
+      by (Ok (m, z, c)) e j h rest =
           let k = item_first _ (items_at d c.at) ys j in
           let at : x.ran.at ≡ c.at = turned_at f t d r m z c e in
           let a = rest k.0 (ap (items_at d) at ∙ k.1) (subst (Sparse f d x.tables.sessions) (sym at) (turned_sparse f d t r m z c e q)) in
@@ -88,7 +88,7 @@ module _ (f : Frame) (d : List ℕ) where
           let w = turn_short r t h (turned_silent f d t r m z c e q) in
           let l = joined_long x.replies y.replies in
           omega (arith, a, b, s, w, l)
-      by (parsed.Refused z) e j h rest = let z : ◌≡◌ {A = ℕ} 0 1 = cc in absurd (omega arith)
+      by (Err z) e j h rest = let z : ◌≡◌ {A = ℕ} 0 1 = cc in absurd (omega arith)
 
       go : (b : Bool) → goes_on (length d) r ≡ b → Rest
           → length (joined_replies (cond b (before x (λ r' t'. run_in n f d r' t')) (idle r t)).replies) ≤ 12 * length ys + 16384 * asks_from r.at

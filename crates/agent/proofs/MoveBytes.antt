@@ -11,10 +11,9 @@ use Rattle.codec.specs.Header.{header_bytes}
 use Rattle.codec.specs.Submessages.{code_byte}
 use Rattle.codec.specs.Writing.{fixed_bytes, payload_bytes, sub_bytes, message_bytes}
 use Rattle.codec.specs.declared.submessages.StatusCode.{StatusCode}
-use Rattle.codec.specs.declared.submessages.StatusCode.TheVariants.{Ok, ErrResources}
+use Rattle.codec.specs.declared.submessages.StatusCode.TheVariants as status
+use Rattle.codec.specs.declared.submessages.StatusCode.TheVariants.{ErrResources}
 use Rattle.codec.proofs.writing.Laws.{length_payload, length_sub, length_message}
-use Rattle.sessions.specs.declared.opening.Created.{Created}
-use Rattle.sessions.specs.declared.opening.Created.TheVariants as created
 use Rattle.moves.specs.Replies.{status_bytes, acknack_bytes, data_of, data_payload, data_bytes}
 use Rattle.moves.specs.Moves.{move_bytes}
 use Rattle.agent.specs.Run.{counted, settled, pointer_of, greeted}
@@ -24,6 +23,8 @@ use Rattle.agent.specs.declared.turn.Stop.TheVariants as stop
 use Rattle.moves.specs.declared.moves.Move.{Move}
 use Rattle.moves.specs.declared.moves.Move.TheVariants.{Greets, Status, Acknack, Repeats, Calls, Silent}
 use Rattle.agent.proofs.Laws.{status_long, acknack_long}
+use Rattle.std.specs.Prelude.{Err, Ok, Result}
+use Rattle.codec.specs.declared.refusals.Refusal.{Refusal}
 
 -- ---- lengths
 
@@ -56,11 +57,11 @@ data_long session stream sequence number body =
     omega (arith, a, b, c)
 
 -- the run behind CREATE_CLIENT's STATUS
-pub greeted_so : (f : Frame) (r : Ran) (at : ℕ) (c : Created)
+pub greeted_so : (f : Frame) (r : Ran) (at : ℕ) (c : Result (ℕ × ℕ) Refusal)
     → ◌≡◌ {A = Ran} (record { next = pointer_of c r.next; at = at; wrote = counted f.room r.wrote 11; stop = stop.Nothing }) (greeted f r at c)
-greeted_so f r at (created.Opened id next) =
-    ap (λ (n : ℕ). settled next at (counted f.room r.wrote n) (Greets id Ok)) (sym (status_long id 0 0 Ok))
-greeted_so f r at (created.Refused x) =
+greeted_so f r at (Ok (id, next)) =
+    ap (λ (n : ℕ). settled next at (counted f.room r.wrote n) (Greets id status.Ok)) (sym (status_long id 0 0 status.Ok))
+greeted_so f r at (Err x) =
     ap (λ (n : ℕ). settled r.next at (counted f.room r.wrote n) (Greets 0 ErrResources)) (sym (status_long 0 0 0 ErrResources))
 
 -- ---- a reply of fixed layout, byte by byte

@@ -1,9 +1,9 @@
 -- What a submessage and an answer come to: what holds of each outcome of the rule holds of it.
+use Rattle.std.specs.Prelude.{Option, None, Some}
 use Prim.Native.Nat.{ℕ}
 use mathlib.Core.Path.{◌≡◌, refl}
 use mathlib.Core.Bool.{Bool, true, false, cond}
 use mathlib.Core.Logic.{◌⊎◌, inl, inr}
-use mathlib.Core.Option.{Option, none, some}
 use mathlib.Core.List.{List, [], ◌∷◌}
 use lib.Dec.{eqb, leb}
 use Rattle.codec.specs.Submessages.{kind_byte}
@@ -33,7 +33,7 @@ use Rattle.agent.specs.RulesFragments.{Working, on_submessage, plain, behind, on
 -- what a rule has seen to before it hands out a call: a CREATE's object finds a place; the stream of a read is 0 or open
 abbrev pub Ready : Task → ℕ → ℕ → Local → Type 0
 Ready (creating kind parent) stream number l = full number l ≡ false
-Ready reading stream number l = (eqb stream 0 ≡ true) ⊎ ((k : KeptStream) × (stream_in l.streams stream ≡ some k))
+Ready reading stream number l = (eqb stream 0 ≡ true) ⊎ ((k : KeptStream) × (stream_in l.streams stream ≡ Some k))
 Ready writing stream number l = Unit {0}
 Ready deleting stream number l = Unit {0}
 
@@ -47,25 +47,25 @@ module _ (P : Move → Type 0) where
     o = opening stream l
 
     pub read_cases : P (says stream number ErrUnknownRef l)
-        → ((h : ℕ) → handle_at number l ≡ some h → eqb stream 0 ≡ true → P (asks stream number reading (read_data h) l))
+        → ((h : ℕ) → handle_at number l ≡ Some h → eqb stream 0 ≡ true → P (asks stream number reading (read_data h) l))
         → P (done o [])
         → P (says stream number ErrResources o)
-        → ((h : ℕ) → handle_at number l ≡ some h → (k : KeptStream) → stream_in o.streams stream ≡ some k → P (asks stream number reading (read_data h) o))
+        → ((h : ℕ) → handle_at number l ≡ Some h → (k : KeptStream) → stream_in o.streams stream ≡ Some k → P (asks stream number reading (read_data h) o))
         → P (on_read stream number l)
     read_cases unknown best-effort ninth crowded asked = named (handle_at number l) refl
       where
-        on : (h : ℕ) → handle_at number l ≡ some h → (x : Option KeptStream) → stream_in o.streams stream ≡ x → P (read_on stream number h x o)
-        on h e none f = ninth
-        on h e (some k) f = either (leb 16 (many_held k.held)) _ _ crowded (asked h e k f)
+        on : (h : ℕ) → handle_at number l ≡ Some h → (x : Option KeptStream) → stream_in o.streams stream ≡ x → P (read_on stream number h x o)
+        on h e None f = ninth
+        on h e (Some k) f = either (leb 16 (many_held k.held)) _ _ crowded (asked h e k f)
 
-        from : (h : ℕ) → handle_at number l ≡ some h → (b : Bool) → eqb stream 0 ≡ b
+        from : (h : ℕ) → handle_at number l ≡ Some h → (b : Bool) → eqb stream 0 ≡ b
             → P (cond b (asks stream number reading (read_data h) l) (read_on stream number h (stream_in o.streams stream) o))
         from h e true z = best-effort h e z
         from h e false z = on h e (stream_in o.streams stream) refl
 
         named : (x : Option ℕ) → handle_at number l ≡ x → P (if_handle x (λ h. read_from stream number h l) (says stream number ErrUnknownRef l))
-        named none e = unknown
-        named (some h) e = from h e (eqb stream 0) refl
+        named None e = unknown
+        named (Some h) e = from h e (eqb stream 0) refl
 
 -- Q is what holds of the tables that a rule leaves: as they were, with other objects, or with the stream opened
 module _ (P : Move → Type 0) (Q : Local → Type 0) (is_open : Bool) (m : Submessage) (stream : ℕ) (l : Local)
@@ -76,22 +76,22 @@ module _ (P : Move → Type 0) (Q : Local → Type 0) (is_open : Bool) (m : Subm
     (hearing : (first last : ℕ) → P (on_heartbeat stream first last l))
     (repeating : (p : AcknackPayload) → m ≡ sub.Acknack p → P (on_acknack stream p.first_unacked_seq p.nack_bitmap l)) where
   handle : (x : Option ℕ) (f : ℕ → Move) (other : Move) → ((h : ℕ) → P (f h)) → P other → P (if_handle x f other)
-  handle none f other p q = q
-  handle (some h) f other p q = p h
+  handle None f other p q = q
+  handle (Some h) f other p q = p h
 
   handles : (x : Option (ℕ × ℕ)) (f : ℕ → ℕ → Move) (other : Move) → ((h k : ℕ) → P (f h k)) → P other → P (if_handles x f other)
-  handles none f other p q = q
-  handles (some hs) f other p q = p hs.0 hs.1
+  handles None f other p q = q
+  handles (Some hs) f other p q = p hs.0 hs.1
 
   named : (x : Option Names) (number parent : ℕ) → full number l ≡ false → P (create_named x stream number parent l)
-  named none number parent e = saying l number ErrInvalidData same
-  named (some x) number parent e = handle (handle_at parent l) _ _ (λ h. asking l number (creating (kind_byte Topic) parent) _ same e) (saying l number ErrInvalidData same)
+  named None number parent e = saying l number ErrInvalidData same
+  named (Some x) number parent e = handle (handle_at parent l) _ _ (λ h. asking l number (creating (kind_byte Topic) parent) _ same e) (saying l number ErrInvalidData same)
 
   create : (kind : ObjectKind) (number parent : ℕ) (body : List ℕ) → full number l ≡ false → P (create_for kind stream number parent body l)
   create Participant number parent body e = asking l number (creating (kind_byte Participant) parent) (create_participant parent) same e
   create Topic number parent body e = named (names_of body) number parent e
-  create Publisher number parent body e = saying (listing number (kind_byte Publisher) none parent l) number Ok (listed _)
-  create Subscriber number parent body e = saying (listing number (kind_byte Subscriber) none parent l) number Ok (listed _)
+  create Publisher number parent body e = saying (listing number (kind_byte Publisher) None parent l) number Ok (listed _)
+  create Subscriber number parent body e = saying (listing number (kind_byte Subscriber) None parent l) number Ok (listed _)
   create DataWriter number parent body e =
       handles (handles_named l.objects parent) _ _ (λ h k. asking l number (creating (kind_byte DataWriter) parent) _ same e) (saying l number ErrInvalidData same)
   create DataReader number parent body e =
@@ -103,8 +103,8 @@ module _ (P : Move → Type 0) (Q : Local → Type 0) (is_open : Bool) (m : Subm
   limit kind number parent body false c e = either P c _ _ (saying l number ErrIncompatible same) (create kind number parent body e)
 
   delete : (number : ℕ) (x : Option Entry) → P (delete_found stream number x l)
-  delete number none = saying l number ErrUnknownRef same
-  delete number (some e) =
+  delete number None = saying l number ErrUnknownRef same
+  delete number (Some e) =
       let q : Q (dropping number l) = listed (drop_in l.objects number) in
       either P (dependant_in l.objects e) _ _ (saying l number ErrIncompatible same)
       (handle e.handle _ _ (λ h. asking (dropping number l) number deleting _ q tt) (saying (dropping number l) number Ok q))
@@ -136,8 +136,8 @@ module _ (P : Move → Type 0) (stream number : ℕ) (l : Local)
     (listed : (es : List Entry) (rs : List Bytes) → P (done (with_objects l es) rs))
     (streamed : (ks : List KeptStream) (rs : List Bytes) → P (done (with_streams l ks) rs)) where
   sampled : (d : List ℕ) (x : Option KeptStream) → P (sample_on stream number d x l)
-  sampled d none = same _
-  sampled d (some k) = streamed _ _
+  sampled d None = same _
+  sampled d (Some k) = streamed _ _
 
   pub answer_cases : (t : Task) (a : Answer) → P (answer_of t stream number a l)
   answer_cases (creating kind parent) (created h) = listed _ _

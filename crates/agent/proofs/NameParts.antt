@@ -2,7 +2,6 @@
 use Prim.Native.Nat.{ℕ, zero, suc, ◌+◌, ◌≤◌}
 use mathlib.Core.Path.{◌≡◌, refl, sym, ap, ◌∙◌}
 use mathlib.Core.Bool.{Bool, true, false, cond}
-use mathlib.Core.Option.{Option, none, some}
 use mathlib.Core.List.{List, [], ◌∷◌}
 use native.Mathlib.Omega.{arith}
 use borrow.Author.Tests.{le-leb, leb-true}
@@ -12,13 +11,11 @@ use lib.Seq.{length-take-le, take-take, drop-drop}
 use Rattle.codec.specs.Reading.{part_of}
 use Rattle.codec.specs.Strings.{string_at}
 use Rattle.codec.specs.declared.layouts.Span.{Span}
-use Rattle.codec.specs.declared.strings.StringRead.{StringRead}
-use Rattle.codec.specs.declared.strings.StringRead.TheVariants.{Text, Refused}
 use Rattle.moves.specs.Names.{placed_in, type_after, name_then, names_in}
 use Rattle.agent.specs.RulesObjects.{Names, type_behind, names_from, names_of}
-use Rattle.moves.specs.declared.names.Names as code
-use Rattle.moves.specs.declared.names.Names.TheVariants as names
 use Rattle.moves.proofs.Strings.{string_within}
+use Rattle.std.specs.Prelude.{Err, None, Ok, Result, Some, Option}
+use Rattle.codec.specs.declared.refusals.Refusal.{Refusal}
 
 -- ---- a part of a part
 
@@ -44,21 +41,21 @@ part_placed d body x low h = by (leb (body.start + body.len) (length d)) refl h
 
 -- ---- the names
 
-abbrev pub bytes_of : List ℕ → code.Names → Option Names
-bytes_of d (names.Both name type) = some (record { name = part_of d name; type = part_of d type })
-bytes_of d names.Unread = none
+abbrev pub bytes_of : List ℕ → Option (Span × Span) → Option Names
+bytes_of d (Some (name, type)) = Some (record { name = part_of d name; type = part_of d type })
+bytes_of d None = None
 
 pub names_same : (d : List ℕ) (body : Span) → bytes_of d (names_in d body) ≡ names_of (part_of d body)
 unfolding names_in names_of
 names_same d body = go (string_at (part_of d body) 0) refl
   where
-    behind : (x : Span) → string_at (part_of d body) 0 ≡ Text x → (r : StringRead) → string_at (part_of d body) (x.start + x.len) ≡ r → bytes_of d (type_after body x r) ≡ type_behind (part_of d body) x r
-    behind x e (Refused r) f = refl
-    behind x e (Text y) f =
+    behind : (x : Span) → string_at (part_of d body) 0 ≡ Ok x → (r : Result Span Refusal) → string_at (part_of d body) (x.start + x.len) ≡ r → bytes_of d (type_after body x r) ≡ type_behind (part_of d body) x r
+    behind x e (Err r) f = refl
+    behind x e (Ok y) f =
         let a = string_within (part_of d body) 0 x e in
         let b = string_within (part_of d body) (x.start + x.len) y f in
-        λ i. some (record { name = part_placed d body x (omega (arith, a.0)) a.1 i; type = part_placed d body y (omega (arith, b.0)) b.1 i })
+        λ i. Some (record { name = part_placed d body x (omega (arith, a.0)) a.1 i; type = part_placed d body y (omega (arith, b.0)) b.1 i })
 
-    go : (r : StringRead) → string_at (part_of d body) 0 ≡ r → bytes_of d (name_then d body r) ≡ names_from (part_of d body) r
-    go (Refused r) e = refl
-    go (Text x) e = behind x e (string_at (part_of d body) (x.start + x.len)) refl
+    go : (r : Result Span Refusal) → string_at (part_of d body) 0 ≡ r → bytes_of d (name_then d body r) ≡ names_from (part_of d body) r
+    go (Err r) e = refl
+    go (Ok x) e = behind x e (string_at (part_of d body) (x.start + x.len)) refl

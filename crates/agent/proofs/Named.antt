@@ -1,7 +1,6 @@
 -- W7's promise, proved: a Topic's names are read exactly where two texts stand, one behind the other.
 use Prim.Native.Nat.{ℕ, ◌+◌}
 use mathlib.Core.Path.{◌≡◌, refl, sym, ap, ◌∙◌, subst}
-use mathlib.Core.Option.{Option, none, some}
 use mathlib.Core.List.{List}
 use native.Mathlib.Omega.{arith}
 use lib.ListN.{drop}
@@ -11,16 +10,16 @@ use Rattle.codec.specs.Grammar.{IsString}
 use Rattle.codec.specs.Reading.{part_of}
 use Rattle.codec.specs.Strings.{span_at, string_at}
 use Rattle.codec.specs.declared.layouts.Span.{Span}
-use Rattle.codec.specs.declared.strings.StringRead.{StringRead}
-use Rattle.codec.specs.declared.strings.StringRead.TheVariants.{Text, Refused}
 use Rattle.codec.proofs.strings.Theorems.{read_there, part_there, behind_there, only_text}
 use Rattle.agent.specs.Local.{handle_at}
 use Rattle.agent.specs.RulesObjects.{Names, type_behind, names_from, names_of, create_named}
 use Rattle.agent.specs.Named.{Named, NamesExactly}
+use Rattle.std.specs.Prelude.{Err, Ok, Result, Option, None, Some}
+use Rattle.codec.specs.declared.refusals.Refusal.{Refusal}
 
 -- ---- two texts are read
 
-names_read : (body name type : List ℕ) → Named body name type → names_of body ≡ some (record { name = name; type = type })
+names_read : (body name type : List ℕ) → Named body name type → names_of body ≡ Some (record { name = name; type = type })
 unfolding names_of
 names_read body name type n =
     let at = 0 + 2 + word_at body 0 in
@@ -31,12 +30,12 @@ names_read body name type n =
 
 -- ---- and nothing else is
 
-names_only : (body : List ℕ) → AllBytes body → (x : Names) → names_of body ≡ some x → Named body x.name x.type
+names_only : (body : List ℕ) → AllBytes body → (x : Names) → names_of body ≡ Some x → Named body x.name x.type
 unfolding names_of
 names_only body small x e = by (string_at body 0) refl e
   where
-    behind : (n : Span) → string_at body 0 ≡ Text n → (r : StringRead) → string_at body (n.start + n.len) ≡ r → type_behind body n r ≡ some x → Named body x.name x.type
-    behind n f (Text t) g e =
+    behind : (n : Span) → string_at body 0 ≡ Ok n → (r : Result Span Refusal) → string_at body (n.start + n.len) ≡ r → type_behind body n r ≡ Some x → Named body x.name x.type
+    behind n f (Ok t) g e =
         let same : ◌≡◌ {A = Names} (record { name = part_of body n; type = part_of body t }) x = cc in
         rw (← same)
         (record {
@@ -45,11 +44,11 @@ names_only body small x e = by (string_at body 0) refl e
           first = (only_text body 0 small n (ap string_answer f)).1;
           second = (only_text body (n.start + n.len) small t (ap string_answer g)).1;
         })
-    behind n f (Refused r) g e = let z : ◌≡◌ {A = ℕ} 0 1 = cc in absurd (omega arith)
+    behind n f (Err r) g e = let z : ◌≡◌ {A = ℕ} 0 1 = cc in absurd (omega arith)
 
-    by : (r : StringRead) → string_at body 0 ≡ r → names_from body r ≡ some x → Named body x.name x.type
-    by (Text n) f e = behind n f (string_at body (n.start + n.len)) refl e
-    by (Refused r) f e = let z : ◌≡◌ {A = ℕ} 0 1 = cc in absurd (omega arith)
+    by : (r : Result Span Refusal) → string_at body 0 ≡ r → names_from body r ≡ Some x → Named body x.name x.type
+    by (Ok n) f e = behind n f (string_at body (n.start + n.len)) refl e
+    by (Err r) f e = let z : ◌≡◌ {A = ℕ} 0 1 = cc in absurd (omega arith)
 
 -- ---- the rule
 
@@ -62,10 +61,10 @@ names_exactly stream number parent body small l =
       orphan = λ f d h. rw (f, d) (alone (names_of body) h);
     }
   where
-    unread : (x : Option Names) → names_of body ≡ x → ((name type : List ℕ) → Named body name type → ⊥) → create_named x stream number parent l ≡ create_named none stream number parent l
-    unread none e n = refl
-    unread (some x) e n = absurd (n x.name x.type (names_only body small x e))
+    unread : (x : Option Names) → names_of body ≡ x → ((name type : List ℕ) → Named body name type → ⊥) → create_named x stream number parent l ≡ create_named None stream number parent l
+    unread None e n = refl
+    unread (Some x) e n = absurd (n x.name x.type (names_only body small x e))
 
-    alone : (x : Option Names) → handle_at parent l ≡ none → create_named x stream number parent l ≡ create_named none stream number parent l
-    alone none h = refl
-    alone (some x) h = rw h
+    alone : (x : Option Names) → handle_at parent l ≡ None → create_named x stream number parent l ≡ create_named None stream number parent l
+    alone None h = refl
+    alone (Some x) h = rw h

@@ -2,7 +2,6 @@
 use Prim.Native.Nat.{ℕ, zero, suc, ◌-◌, ◌<◌}
 use mathlib.Core.Path.{◌≡◌, refl, sym, subst}
 use mathlib.Core.Bool.{Bool, true, false, cond}
-use mathlib.Core.Option.{Option, none, some}
 use mathlib.Core.List.{List, [], ◌∷◌, ◌++◌}
 use native.Mathlib.Omega.{arith}
 use lib.Dec.{eqb, ltb}
@@ -22,8 +21,6 @@ use Rattle.hours.specs.Windows.{Window, is_open}
 use Rattle.sessions.specs.View.{Tables as Stores, Entry, KeptStream, Local, blank_entry, place_in, find_in, put_entry, put_in, drop_at, drop_in, stream_in, expired}
 use Rattle.sessions.specs.Dependants.{dependant_in, has_dependant}
 use Rattle.sessions.specs.ObjectList.{rank_of}
-use Rattle.sessions.specs.declared.objects.Place.{Place}
-use Rattle.sessions.specs.declared.objects.Place.TheVariants.{At, Nowhere}
 use Rattle.sessions.proofs.FoundAgain.{found_among}
 use Rattle.moves.specs.Calls as moves
 use Rattle.moves.specs.Calls.{Answer, created, succeeded, sample, no_sample, failed, Task, creating, writing, reading as readingTask, deleting, fits}
@@ -40,12 +37,12 @@ use Rattle.agent.specs.Step as step
 use Rattle.agent.specs.Step.{Tables, Open, Ran, chosen, open_as, run, deliver, act, keep, continued, settle, begin, stays}
 use Rattle.agent.specs.Whole as whole
 use Rattle.agent.specs.Whole.{Hosted, agent_of, event_of, session_in, set_up_with}
-use Rattle.agent.specs.declared.agent.AgentSetUp.TheVariants.{Ready}
 use Rattle.agent.specs.declared.state.Agent.{Agent}
 use Rattle.agent.proofs.MoveCases.{either, read_cases, Leaves, LeavesAll, onto_leaves, handle_leaves}
 use Rattle.agent.proofs.SquareStep.{empty_square, step_square}
 use Rattle.agent.proofs.WholeInStep.{Holds, holds_empty, holds_step}
 use Rattle.agent.proofs.Promised.{state_after}
+use Rattle.std.specs.Prelude.{None, Ok, Some, Option}
 
 -- ---- a list of objects
 
@@ -78,19 +75,19 @@ each_at (e ∷ es) (suc i) h a = each_at es i (omega arith) a.1
 put_each : (es : List Entry) (x : Entry) → Each es → Own x → Each (put_in es x)
 put_each es x a p = by (place_in es x.number)
   where
-    by : (q : Place) → Each (put_entry es q x)
-    by (At i) = each_set es i x a p
-    by Nowhere = each_append es x a p
+    by : (q : Option ℕ) → Each (put_entry es q x)
+    by (Some i) = each_set es i x a p
+    by None = each_append es x a p
 
 drop_each : (es : List Entry) (n : ℕ) → Each es → Each (drop_in es n)
 drop_each es n a = by es a (place_in es n)
   where
-    by : (xs : List Entry) → Each xs → (q : Place) → Each (drop_at xs q)
-    by [] a (At i) = each_take 0 [] tt
-    by (x ∷ xs) a (At i) =
+    by : (xs : List Entry) → Each xs → (q : Option ℕ) → Each (drop_at xs q)
+    by [] a (Some i) = each_take 0 [] tt
+    by (x ∷ xs) a (Some i) =
         each_take (length (x ∷ xs) - 1) (set (x ∷ xs) i (get_or (x ∷ xs) (length (x ∷ xs) - 1) blank_entry))
         (each_set (x ∷ xs) i (get_or (x ∷ xs) (length (x ∷ xs) - 1) blank_entry) a (each_at (x ∷ xs) (length (x ∷ xs) - 1) (omega arith) a))
-    by xs a Nowhere = a
+    by xs a None = a
 
 -- ---- a move: what it leaves, and the kind that an open CREATE will list
 
@@ -121,17 +118,17 @@ kind_own DataWriter = refl
 kind_own DataReader = refl
 
 if_handle_lem : (x : Option ℕ) (f : ℕ → Move) (other : Move) → ((h : ℕ) → MoveGood (f h)) → MoveGood other → MoveGood (if_handle x f other)
-if_handle_lem none f other p q = q
-if_handle_lem (some h) f other p q = p h
+if_handle_lem None f other p q = q
+if_handle_lem (Some h) f other p q = p h
 
 if_handles_lem : (x : Option (ℕ × ℕ)) (f : ℕ → ℕ → Move) (other : Move) → ((h k : ℕ) → MoveGood (f h k)) → MoveGood other → MoveGood (if_handles x f other)
-if_handles_lem none f other p q = q
-if_handles_lem (some hs) f other p q = p hs.0 hs.1
+if_handles_lem None f other p q = q
+if_handles_lem (Some hs) f other p q = p hs.0 hs.1
 
 module _ (l : Local) (g : Good l) (stream number : ℕ) where
   named_good : (x : Option Names) (parent : ℕ) → MoveGood (create_named x stream number parent l)
-  named_good none parent = g
-  named_good (some x) parent = if_handle_lem (handle_at parent l) _ _ (λ h. (g, kind_own Topic)) g
+  named_good None parent = g
+  named_good (Some x) parent = if_handle_lem (handle_at parent l) _ _ (λ h. (g, kind_own Topic)) g
 
   create_good : (k : ObjectKind) (parent : ℕ) (body : List ℕ) → MoveGood (create_for k stream number parent body l)
   create_good Participant parent body = (g, kind_own Participant)
@@ -142,12 +139,12 @@ module _ (l : Local) (g : Good l) (stream number : ℕ) where
   create_good DataReader parent body = if_handles_lem (handles_named l.objects parent) _ _ (λ h k. (g, kind_own DataReader)) g
 
   delete_good : (x : Option Entry) → MoveGood (delete_found stream number x l)
-  delete_good none = g
-  delete_good (some e) = let d = drop_each l.objects number g in either MoveGood (dependant_in l.objects e) _ _ g (if_handle_lem e.handle _ _ (λ h. (d, tt)) d)
+  delete_good None = g
+  delete_good (Some e) = let d = drop_each l.objects number g in either MoveGood (dependant_in l.objects e) _ _ g (if_handle_lem e.handle _ _ (λ h. (d, tt)) d)
 
   sample_good : (d : List ℕ) (x : Option KeptStream) → MoveGood (sample_on stream number d x l)
-  sample_good d none = g
-  sample_good d (some k) = g
+  sample_good d None = g
+  sample_good d (Some k) = g
 
   answer_good : (t : Task) → TaskOwn t → (a : Answer) → MoveGood (answer_of t stream number a l)
   answer_good (creating kind parent) o (created h) = put_each l.objects _ g o
@@ -194,15 +191,15 @@ resumed_good l p a g o = onto_leaves Good Owns plain_good p.left (on_answer l p.
 -- ---- a run, and a step
 
 abbrev OptGood : Option Local → Type 0
-OptGood none = Unit {0}
-OptGood (some l) = Good l
+OptGood None = Unit {0}
+OptGood (Some l) = Good l
 
 abbrev TablesGood : Tables → Type 0
 TablesGood t = (id : ℕ) → OptGood (t.at id)
 
 abbrev WaitGood : Option Open → Type 0
-WaitGood none = Unit {0}
-WaitGood (some w) = TaskOwn w.pending.asked.task
+WaitGood None = Unit {0}
+WaitGood (Some w) = TaskOwn w.pending.asked.task
 
 abbrev RanGood : Ran → Type 0
 RanGood r = TablesGood r.tables × WaitGood (step.open_of r.stop)
@@ -215,17 +212,17 @@ with_good id x at p f i = by (eqb i id)
     by false = f i
 
 open_good : (o : Opening) (t : Tables) (x : Option ℕ) → TablesGood t → TablesGood (open_as o t x)
-open_good o t none g = g
-open_good o t (some id) g = with_good id _ t.at tt g
+open_good o t None g = g
+open_good o t (Some id) g = with_good id _ t.at tt g
 
 acts_good : (id : ℕ) (rest : List (Sub Opening In)) (t : Tables) (m : Working) (go : Tables → Ran) → TablesGood t → WorkGood m → ((u : Tables) → TablesGood u → RanGood (go u)) → RanGood (act id rest t m go)
-acts_good id rest t (done l rs) go g p f = f (keep id l t) (with_good id (some l) t.at p g)
-acts_good id rest t (calls l rs c q) go g p f = (with_good id (some l) t.at p.0 g, p.1)
+acts_good id rest t (done l rs) go g p f = f (keep id l t) (with_good id (Some l) t.at p g)
+acts_good id rest t (calls l rs c q) go g p f = (with_good id (Some l) t.at p.0 g, p.1)
 
 deliver_good : (id : ℕ) (rest : List (Sub Opening In)) (t : Tables) (x : Option Local) (rule : Local → Working) (go : Tables → Ran) → TablesGood t → OptGood x
     → ((l : Local) → Good l → WorkGood (rule l)) → ((u : Tables) → TablesGood u → RanGood (go u)) → RanGood (deliver id rest t x rule go)
-deliver_good id rest t none rule go g p r f = f t g
-deliver_good id rest t (some l) rule go g p r f = acts_good id rest t (rule l) go g (r l p) f
+deliver_good id rest t None rule go g p r f = f t g
+deliver_good id rest t (Some l) rule go g p r f = acts_good id rest t (rule l) go g (r l p) f
 
 run_good : (max id : ℕ) (ss : List (Sub Opening In)) (t : Tables) → TablesGood t → RanGood (run max id ss t)
 unfolding run
@@ -259,27 +256,27 @@ begin_good st out given (gives x) g =
     let m = message_from (moment_of st.is_open given) x.0 x.1 in settle_good st out (run st.max m.header m.subs st.tables) g (run_good st.max m.header m.subs st.tables g.0)
 
 stays_good : (timeout now : ℕ) (x : Option Local) → OptGood x → OptGood (stays timeout now x)
-stays_good timeout now none p = tt
-stays_good timeout now (some l) p = by (expired l now timeout)
+stays_good timeout now None p = tt
+stays_good timeout now (Some l) p = by (expired l now timeout)
   where
-    by : (b : Bool) → OptGood (cond b none (some l))
+    by : (b : Bool) → OptGood (cond b None (Some l))
     by true = tt
     by false = p
 
 stepped_good : (w : Option Open) (st : step.Agent) (e : step.Event) (out : List ℕ) → AgentGood st → WaitGood w → AgentGood (step.stepped w st e out).agent
-stepped_good none st (step.datagram given bytes) out g o = by (is_minute given.day given.minute)
+stepped_good None st (step.datagram given bytes) out g o = by (is_minute given.day given.minute)
   where
     by : (b : Bool) → AgentGood (cond b (begin st out given (reading bytes)) (step.refuse st out 20 0)).agent
     by true = begin_good st out given (reading bytes) g
     by false = g
-stepped_good none st (step.answer a) out g o = g
-stepped_good none st (step.removal id) out g o =
-    finish_good st out (step.with_locals st (step.with_id id none st.tables.at)) [] (step.removed (step.is_live (st.tables.at id))) g (with_good id none st.tables.at tt g.0, tt)
-stepped_good none st (step.sweep now) out g o =
+stepped_good None st (step.answer a) out g o = g
+stepped_good None st (step.removal id) out g o =
+    finish_good st out (step.with_locals st (step.with_id id None st.tables.at)) [] (step.removed (step.is_live (st.tables.at id))) g (with_good id None st.tables.at tt g.0, tt)
+stepped_good None st (step.sweep now) out g o =
     let is = step.lapsed_ids st.timeout now st.tables.at in
     finish_good st out (step.with_locals st (λ i. stays st.timeout now (st.tables.at i))) is (step.swept is) g ((λ i. stays_good st.timeout now (st.tables.at i) (g.0 i)), tt)
-stepped_good (some w) st (step.datagram given bytes) out g o = g
-stepped_good (some w) st (step.answer a) out g o = by (fits w.pending.asked.task a) (step.too_long w.pending.asked a) (step.over_held w a st.tables)
+stepped_good (Some w) st (step.datagram given bytes) out g o = g
+stepped_good (Some w) st (step.answer a) out g o = by (fits w.pending.asked.task a) (step.too_long w.pending.asked a) (step.over_held w a st.tables)
   where
     by : (b c d : Bool)
         → AgentGood (cond b (cond c (step.refuse st out 12 0) (cond d (step.refuse st out 14 0) (settle st out (continued st.max w a st.tables)))) (step.refuse st out 15 0)).agent
@@ -287,8 +284,8 @@ stepped_good (some w) st (step.answer a) out g o = by (fits w.pending.asked.task
     by true false true = g
     by true false false = settle_good st out (continued st.max w a st.tables) g (continued_good st.max w a st.tables g.0 o)
     by false c d = g
-stepped_good (some w) st (step.removal id) out g o = g
-stepped_good (some w) st (step.sweep now) out g o = g
+stepped_good (Some w) st (step.removal id) out g o = g
+stepped_good (Some w) st (step.sweep now) out g o = g
 
 step_good : (st : step.Agent) (e : step.Event) (out : List ℕ) → AgentGood st → AgentGood (step.step st e out).agent
 unfolding step.step
@@ -296,7 +293,7 @@ step_good st e out g = stepped_good st.waits st e out g g.1
 
 -- ---- after any list of calls
 
-module _ (t : Stores) (hours : List ℕ) (ws : List Window) (max timeout : ℕ) (a : Agent) (made : set_up_with t hours ws max timeout ≡ Ready a) where
+module _ (t : Stores) (hours : List ℕ) (ws : List Window) (max timeout : ℕ) (a : Agent) (made : set_up_with t hours ws max timeout ≡ Ok a) where
   abbrev A : claim.Agent (rules (is_open ws) timeout)
   A = whole.agent t hours ws max timeout a
 
@@ -309,7 +306,7 @@ module _ (t : Stores) (hours : List ℕ) (ws : List Window) (max timeout : ℕ) 
   empty_good : AgentGood (agent_of A.empty)
   empty_good = subst AgentGood (sym (empty_square t hours ws max timeout a made).agent) ((λ id. tt), tt)
 
-  pub own_rank : (H : List Hosted) (id : ℕ) (l : Local) → session_in (state_after t hours ws max timeout a made H).tables id ≡ some l → (n : ℕ) (e : Entry) → find_in l.objects n ≡ some e → rank_of e.kind ≡ e.kind
+  pub own_rank : (H : List Hosted) (id : ℕ) (l : Local) → session_in (state_after t hours ws max timeout a made H).tables id ≡ Some l → (n : ℕ) (e : Entry) → find_in l.objects n ≡ Some e → rank_of e.kind ≡ e.kind
   own_rank H id l q n e f =
       let m = (found_among l.objects n e f).0 in
       let g : Each l.objects = subst OptGood q ((good_after H (claim.set_up (rules (is_open ws) timeout) A) (holds_empty t hours ws max timeout a made) empty_good).0 id) in

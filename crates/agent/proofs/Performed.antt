@@ -8,21 +8,23 @@ use lib.Dec.{ltb}
 use lib.ListN.{length}
 use Rattle.sessions.specs.Table.{got_of}
 use Rattle.sessions.specs.View.{Tables}
-use Rattle.sessions.specs.declared.table.Got.{Got}
-use Rattle.sessions.specs.declared.table.Got.TheVariants as got
 use Rattle.moves.specs.Rows.{Rows}
 use Rattle.agent.specs.Step.{Reply, joined_replies}
 use Rattle.agent.specs.Lent.{rows_of, rebuilt_part}
 use Rattle.agent.specs.Run.{count_replies, work_at, run_at}
 use Rattle.agent.specs.Answered.{sequence_of, answered_by}
 use Rattle.agent.specs.Host.{begun_by, rows_begun, held_begun, first_ran, resumed_acted, resumed, performed}
-use Rattle.agent.specs.declared.judge.Resumes.{Resumes}
-use Rattle.agent.specs.declared.judge.Resumes.TheVariants as resumes
 use Rattle.agent.specs.declared.judge.Start.{Start}
 use Rattle.agent.specs.declared.turn.Frame.{Frame}
 use Rattle.agent.proofs.Counted.{count_behind, count_exact, count_told}
 use Rattle.agent.proofs.Turns.{one_long, none_long, work_told}
 use Rattle.agent.proofs.Running.{run_told}
+use Rattle.std.specs.Prelude.{Err, None, Ok, Option, Result, Some}
+use Rattle.moves.specs.declared.proxy.BridgeAnswer.{BridgeAnswer}
+use Rattle.sessions.specs.declared.table.ClientSession.{ClientSession}
+use Rattle.codec.specs.declared.submessages.ObjectNumber.{ObjectNumber}
+use Rattle.codec.specs.declared.refusals.Refusal.{Refusal}
+use Rattle.moves.specs.declared.proxy.Task.{Task}
 
 -- ---- the answer's part comes first, at the start of the output: one reply or none
 
@@ -34,15 +36,15 @@ none_counted : (room : ℕ) → count_replies room 0 [] ≡ length (joined_repli
 unfolding count_replies
 none_counted room = sym none_long
 
-pub begun_counted : (room : ℕ) (x : Resumes) (s y : List (List ℕ)) (f : Frame) (sample : List ℕ)
+pub begun_counted : (room : ℕ) (x : Option (ObjectNumber × Task × BridgeAnswer)) (s y : List (List ℕ)) (f : Frame) (sample : List ℕ)
     → count_replies room 0 (begun_by x s y f sample) ≡ length (joined_replies (begun_by x s y f sample))
-begun_counted room resumes.Nothing s y f sample = none_counted room
-begun_counted room (resumes.Answer number task a) s y f sample = go (got_of s f.session_id)
+begun_counted room None s y f sample = none_counted room
+begun_counted room (Some (number, task, a)) s y f sample = go (got_of s f.session_id)
   where
-    go : (g : Got) → count_replies room 0 (answered_by g f (sequence_of s y f) sample number task a) ≡ length (joined_replies (answered_by g f (sequence_of s y f) sample number task a))
-    go (got.Session z) = one_counted room _
-    go got.NotLive = none_counted room
-    go (got.Refused r) = none_counted room
+    go : (g : Result (Option ClientSession) Refusal) → count_replies room 0 (answered_by g f (sequence_of s y f) sample number task a) ≡ length (joined_replies (answered_by g f (sequence_of s y f) sample number task a))
+    go (Ok (Some z)) = one_counted room _
+    go (Ok None) = none_counted room
+    go (Err r) = none_counted room
 
 -- then the rebuilt submessages that waited for it
 pub resumed_told : (x : Start) (t : Rows) (h rebuilt sample : List ℕ)

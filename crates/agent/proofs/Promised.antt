@@ -3,7 +3,6 @@ use Prim.Native.Nat.{ℕ, ◌<◌, ◌≤◌}
 use mathlib.Core.Path.{◌≡◌, refl, sym, ap, ◌∙◌, subst}
 use mathlib.Core.Logic.{◌≢◌}
 use mathlib.Core.Bool.{Bool, true, false, cond}
-use mathlib.Core.Option.{Option, none, some}
 use mathlib.Core.List.{List, [], ◌∷◌, ◌++◌, map, append-nil}
 use native.Mathlib.Omega.{arith}
 use borrow.Author.Tests.{ltb-true, ltb-false, le-ltb}
@@ -17,11 +16,9 @@ use Rattle.isolation.specs.Claim as claim
 use Rattle.codec.specs.declared.refusals.Refusal.TheVariants.{OverLimit, WindowFault}
 use Rattle.hours.specs.Windows.{Window, week_minutes, is_open, all_fit, checked_of}
 use Rattle.hours.specs.Week.{is_minute}
-use Rattle.hours.specs.declared.windows.Windows.TheVariants as windows
 use Rattle.sessions.specs.Need.{stores_fit}
 use Rattle.sessions.specs.Setup.{set_up_of}
 use Rattle.sessions.specs.View.{Tables}
-use Rattle.sessions.specs.declared.setup.SetUp.TheVariants as setup
 use Rattle.moves.specs.Calls.{fits}
 use Rattle.agent.specs.Brings.{moment_of, message_from}
 use Rattle.agent.specs.declared.state.Given.{Given}
@@ -32,15 +29,14 @@ use Rattle.agent.specs.Host.{set_up_by, set_up_as}
 use Rattle.agent.specs.Claim as lists
 use Rattle.agent.specs.Whole as whole
 use Rattle.agent.specs.Whole.{State, Event, datagram, answer, removal, sweep, Did, step_of, opens_as, agent_of, event_of, Hosted, set_up_with, set_up_answer}
-use Rattle.agent.specs.declared.agent.AgentSetUp.TheVariants.{Ready}
 use Rattle.agent.specs.declared.state.Agent.{Agent}
-use Rattle.agent.specs.declared.state.Waiting.TheVariants as waiting
 use Rattle.agent.proofs.Laws.{went, went_not}
 use Rattle.agent.proofs.Shown.{joined_replies_same}
 use Rattle.agent.proofs.SquareStep.{Inv, step_square}
 use Rattle.agent.proofs.WholeInStep.{Holds, holds_empty, holds_step}
 use Rattle.agent.proofs.WireNumbers.{OfWire, reading_wire}
 use Rattle.agent.proofs.Planned.{number_in, said_by, refusing, Plan, stops, goes, carry, Good, planned}
+use Rattle.std.specs.Prelude.{Err, None, Ok, Option, Some}
 
 -- ---- in any state
 
@@ -188,19 +184,19 @@ begin_listed st out given bytes (refused_as number byte) e = wire number (readin
 begin_listed st out given bytes (gives x) e = let m = message_from (moment_of st.is_open given) x.0 x.1 in settle_listed st out (run st.max m.header m.subs st.tables)
 
 stepped_listed : (w : Option Open) (st : step.Agent) (e : step.Event) (out : List ℕ) → ListedIn (step.stepped w st e out).result
-stepped_listed none st (step.datagram given bytes) out = by (is_minute given.day given.minute)
+stepped_listed None st (step.datagram given bytes) out = by (is_minute given.day given.minute)
   where
     by : (b : Bool) → ListedIn (cond b (begin st out given (reading bytes)) (step.refuse st out 20 0)).result
     by true = begin_listed st out given bytes (reading bytes) refl
     by false = no_such_minute
-stepped_listed none st (step.answer a) out = out_of_turn
-stepped_listed none st (step.removal id) out =
-    finish_listed st out (step.with_locals st (step.with_id id none st.tables.at)) [] (step.removed (step.is_live (st.tables.at id))) tt
-stepped_listed none st (step.sweep now) out =
+stepped_listed None st (step.answer a) out = out_of_turn
+stepped_listed None st (step.removal id) out =
+    finish_listed st out (step.with_locals st (step.with_id id None st.tables.at)) [] (step.removed (step.is_live (st.tables.at id))) tt
+stepped_listed None st (step.sweep now) out =
     let is = step.lapsed_ids st.timeout now st.tables.at in
     finish_listed st out (step.with_locals st (λ i. step.stays st.timeout now (st.tables.at i))) is (step.swept is) tt
-stepped_listed (some w) st (step.datagram given bytes) out = out_of_turn
-stepped_listed (some w) st (step.answer a) out = by (fits w.pending.asked.task a) (step.too_long w.pending.asked a) (step.over_held w a st.tables)
+stepped_listed (Some w) st (step.datagram given bytes) out = out_of_turn
+stepped_listed (Some w) st (step.answer a) out = by (fits w.pending.asked.task a) (step.too_long w.pending.asked a) (step.over_held w a st.tables)
   where
     by : (b c d : Bool)
         → ListedIn (cond b (cond c (step.refuse st out 12 0) (cond d (step.refuse st out 14 0) (settle st out (continued st.max w a st.tables)))) (step.refuse st out 15 0)).result
@@ -208,8 +204,8 @@ stepped_listed (some w) st (step.answer a) out = by (fits w.pending.asked.task a
     by true false true = store_full
     by true false false = settle_listed st out (continued st.max w a st.tables)
     by false c d = out_of_turn
-stepped_listed (some w) st (step.removal id) out = out_of_turn
-stepped_listed (some w) st (step.sweep now) out = out_of_turn
+stepped_listed (Some w) st (step.removal id) out = out_of_turn
+stepped_listed (Some w) st (step.sweep now) out = out_of_turn
 
 step_listed : (st : step.Agent) (e : step.Event) (out : List ℕ) → ListedIn (step.step st e out).result
 unfolding step.step
@@ -228,7 +224,7 @@ listed_16 number out_of_turn e = omega (arith, e)
 listed_16 number no_such_minute e = omega (arith, e)
 
 -- whatever stood in the tables that set-up accepts, no call behind it is refused as 16
-module _ (t : Tables) (hours : List ℕ) (ws : List Window) (max timeout : ℕ) (a : Agent) (made : set_up_with t hours ws max timeout ≡ Ready a) where
+module _ (t : Tables) (hours : List ℕ) (ws : List Window) (max timeout : ℕ) (a : Agent) (made : set_up_with t hours ws max timeout ≡ Ok a) where
   abbrev whole_agent : claim.Agent (rules (is_open ws) timeout)
   whole_agent = whole.agent t hours ws max timeout a
 
@@ -250,7 +246,7 @@ module _ (t : Tables) (hours : List ℕ) (ws : List Window) (max timeout : ℕ) 
 pub set_up_answers : (t : Tables) (hours : List ℕ) (ws : List Window) (max timeout : ℕ)
     → set_up_answer (set_up_with t hours ws max timeout)
     ≡ cond (stores_fit (length t.sessions) (length t.streams) (length t.objects) (length t.held) (length t.parts) (length t.lengths) (length t.rebuilt) max)
-    (cond (leb week_minutes (length hours)) (cond (all_fit ws) (gives (record { max_clients = max; timeout_ms = timeout; next = 1; waits = waiting.Nothing })) (refused_as 19 0)) (refused_as 16 0))
+    (cond (leb week_minutes (length hours)) (cond (all_fit ws) (gives (record { max_clients = max; timeout_ms = timeout; next = 1; waits = None })) (refused_as 19 0)) (refused_as 16 0))
     (refused_as 16 0)
 unfolding set_up_of checked_of
 set_up_answers t hours ws max timeout =
@@ -258,10 +254,10 @@ set_up_answers t hours ws max timeout =
     (leb week_minutes (length hours)) (all_fit ws)
   where
     fresh : Agent
-    fresh = record { max_clients = max; timeout_ms = timeout; next = 1; waits = waiting.Nothing }
+    fresh = record { max_clients = max; timeout_ms = timeout; next = 1; waits = None }
 
     by : (b c f : Bool)
-        → set_up_answer (set_up_as (set_up_by (cond b (setup.Ready 1) (setup.Refused OverLimit)) (cond c (cond f windows.Fit (windows.Refused WindowFault)) (windows.Refused OverLimit))) max timeout)
+        → set_up_answer (set_up_as (set_up_by (cond b (Ok 1) (Err OverLimit)) (cond c (cond f (Ok tt) (Err WindowFault)) (Err OverLimit))) max timeout)
         ≡ cond b (cond c (cond f (gives fresh) (refused_as 19 0)) (refused_as 16 0)) (refused_as 16 0)
     by true true true = refl
     by true true false = refl

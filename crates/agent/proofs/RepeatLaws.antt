@@ -1,9 +1,9 @@
 -- W5 over the life of a session: whatever it is fed, each DATA reply and each answer to an ACKNACK is right, and so it is of any agent with term 3.
+use Rattle.std.specs.Prelude.{Option, None, Some}
 use Prim.Native.Nat.{ℕ}
 use mathlib.Core.Path.{◌≡◌, refl, sym, ap, ◌∙◌, subst}
 use mathlib.Core.Logic.{◌≢◌, inl, inr}
 use mathlib.Core.Bool.{Bool, true, false, cond}
-use mathlib.Core.Option.{Option, none, some}
 use mathlib.Core.List.{List, [], ◌∷◌, ◌++◌, append-nil, append_assoc, Memᴰ}
 use native.Mathlib.Omega.{arith}
 use borrow.Author.Tests.{eqb-true, eqb-false, ne_eqb}
@@ -74,7 +74,7 @@ module _ (id : ℕ) where
     opened : Inv g (opening stream l)
     opened = (v.0, λ n h. open_now l.streams stream n ∙ v.1 n h)
 
-    quiet : (m : Submessage) (body : List ℕ) → acknack_of m ≡ none → Next g (on_submessage is_open m body stream l)
+    quiet : (m : Submessage) (body : List ℕ) → acknack_of m ≡ None → Next g (on_submessage is_open m body stream l)
     quiet m body e =
         submessage_cases (Next g) (Inv g) is_open m stream l v (λ es. v) opened (λ l' q. q) (λ l' n code q. q) (λ l' n task call q r. (q, r))
         (λ first last. opened) (λ p f. absurd (none_some (sym e ∙ ap acknack_of f))) body
@@ -95,7 +95,7 @@ module _ (id : ℕ) where
             (λ m h. acknack_elsewhere ks stream first m h ∙ open_now l.streams stream m),
       )
 
-      repeated : stream ≢ 0 → Repeated (some (first, bitmap)) stream (g stream) (repeats_from stream first bitmap (stream_in left.streams stream))
+      repeated : stream ≢ 0 → Repeated (Some (first, bitmap)) stream (g stream) (repeats_from stream first bitmap (stream_in left.streams stream))
       repeated h =
           let held = acknack_here ks stream first ∙ ap (acknack_in first) (open_now l.streams stream stream ∙ v.1 stream h) in
           let exact : repeats_from stream first bitmap (stream_in left.streams stream) ≡ repeated_in (acknack_in first (stream_after stream (g stream))).held first bitmap
@@ -123,18 +123,18 @@ module _ (id : ℕ) where
     abbrev Answered : Option (List ℕ) → Move → Type 0
     Answered x m = Next (adding stream (sends x (replies_of m)) g) m × (stream ≢ 0 → Sent x id stream number (g stream) (replies_of m))
 
-    not_open : eqb stream 0 ≡ false → stream_in l.streams stream ≡ none → Ready reading stream number l → ⊥
+    not_open : eqb stream 0 ≡ false → stream_in l.streams stream ≡ None → Ready reading stream number l → ⊥
     not_open q e (inl z) = let o : ◌≡◌ {A = ℕ} 0 1 = ap (λ (b : Bool). cond b 1 0) (sym q ∙ z) in omega arith
     not_open q e (inr (k, f)) = none_some (sym e ∙ f)
 
     sampled : (d : List ℕ) (b : Bool) → eqb stream 0 ≡ b → (x : Option KeptStream) → stream_in l.streams stream ≡ x → Ready reading stream number l
-        → Answered (some d) (cond b (done l (data_bytes l.id stream 0 number d ∷ [])) (sample_on stream number d x l))
+        → Answered (Some d) (cond b (done l (data_bytes l.id stream 0 number d ∷ [])) (sample_on stream number d x l))
     unfolding on_event
     sampled d true q x e r =
         let z : stream ≡ 0 = eqb-true stream 0 q in
         ((v.0, told_more g stream (sent (data_bytes l.id stream 0 number d)) l.streams l.streams v.1 (λ h. absurd (h z)) (λ m h. refl)), λ h. absurd (h z))
-    sampled d false q none e r = absurd (not_open q e r)
-    sampled d false q (some k) e r =
+    sampled d false q None e r = absurd (not_open q e r)
+    sampled d false q (Some k) e r =
         let bytes = data_bytes l.id stream k.next number d in (
           (
             v.0,
@@ -307,7 +307,7 @@ module _ (is_open : ℕ → ℕ → Bool) (timeout : ℕ) where
     pub machine_repeats : (o : Opening) (fs : List (Feed R)) → AllRepeated id nothing_yet (works (takes R (idle (start id o)) fs).actions)
     unfolding stream_in on_events
     machine_repeats o fs =
-        (life fs nothing_yet (idle (start id o)) (refl, λ n h. ap (λ (b : Bool). or_fresh n (cond b (some (fresh_of 0)) none)) (ne_eqb 0 n (λ z. h (sym z))))).said
+        (life fs nothing_yet (idle (start id o)) (refl, λ n h. ap (λ (b : Bool). or_fresh n (cond b (Some (fresh_of 0)) None)) (ne_eqb 0 n (λ z. h (sym z))))).said
 
   -- ---- a machine's replies are those of its rules at work
 

@@ -62,34 +62,22 @@ module _ (s x : List (List ℕ)) (h : List ℕ) (id n : ℕ) where
 
 -- ---- the loop over them
 
-module _ (numbers : List ℕ) (many i : ℕ) where
-  next_number : i < many → many ≤ length numbers → drop i (take many numbers) ≡ get_or numbers i 0 ∷ drop (i + 1) (take many numbers)
-  next_number below fits =
-      let e = length-take-le many numbers fits in
-      rw (add-one i, ← get_or-take many numbers i 0 below) (drop-cons (take many numbers) i 0 (omega arith))
-
-  no_number : many ≤ i → drop i (take many numbers) ≡ []
-  no_number h =
-      let e = length-take many numbers in
-      let l : length (take many numbers) ≤ i = omega arith in
-      drop_of_length-le (take many numbers) l
-
-module _ (s x : List (List ℕ)) (h : List ℕ) (id n room : ℕ) (numbers : List ℕ) (many i : ℕ) (out : List ℕ) (at : ℕ) where
+module _ (s x : List (List ℕ)) (h : List ℕ) (id n room : ℕ) (numbers : List ℕ) (i : ℕ) (out : List ℕ) (at : ℕ) where
   abbrev left : ℕ → List Reply
-  left k = told s x h id n (drop k (take many numbers))
+  left k = told s x h id n (drop k numbers)
 
   abbrev message : List ℕ
   message = message_of s x h id n (get_or numbers i 0)
 
-  pub told_more : i < many → many ≤ length numbers
+  pub told_more : i < length numbers
       → (count_replies room (counted room at (length message)) (left (i + 1)) ≡ count_replies room at (left i))
       × (put_replies room (put_bytes out at message) (counted room at (length message)) (left (i + 1)) ≡ put_replies room out at (left i))
   unfolding count_replies put_replies
-  told_more below fits = rw (next_number numbers many i below fits) (refl, refl)
+  told_more below = rw (add-one i, drop-cons numbers i 0 below) (refl, refl)
 
-  pub told_end : many ≤ i → (at ≡ count_replies room at (left i)) × (out ≡ put_replies room out at (left i))
+  pub told_end : length numbers ≤ i → (at ≡ count_replies room at (left i)) × (out ≡ put_replies room out at (left i))
   unfolding count_replies put_replies
-  told_end h = rw (no_number numbers many i h) (refl, refl)
+  told_end past = rw (drop_of_length-le numbers past) (refl, refl)
 
 -- ---- the numbers that a stream lists are the first of its answer
 
@@ -98,6 +86,6 @@ module _ (s : StreamState) (first bitmap : ℕ) (a : Acknowledged) (is : a ≡ r
   unfolding repeats_of padded
   listed_first = let l = repeats s first bitmap in rw is (take-append_seam l (replicate (16 - length l) 0))
 
-  pub listed_within : a.count ≤ length a.repeats
+  pub listed_within : a.count ≤ 16
   unfolding repeats_of padded
-  listed_within = let l = repeats s first bitmap in rw (is, length-append l (replicate (16 - length l) 0)) (omega arith)
+  listed_within = rw is (few s first bitmap)

@@ -6,17 +6,11 @@ use mathlib.Core.List.{List, [], ◌∷◌, ◌++◌}
 use lib.ListN.{length}
 use Rattle.codec.specs.Reading.{read_at, part_of}
 use Rattle.codec.specs.Rebuilt.{rebuilt_of}
-use Rattle.codec.specs.declared.rebuilt.Rebuilt.{Rebuilt}
-use Rattle.codec.specs.declared.rebuilt.Rebuilt.TheVariants as rebuilt
 use Rattle.codec.specs.declared.submessages.ObjectNumber.{ObjectNumber}
 use Rattle.sessions.specs.Calls.{gather_tables}
 use Rattle.sessions.specs.Fragments.{gathered}
 use Rattle.sessions.specs.Table.{named_of, got_of}
 use Rattle.sessions.specs.View.{Tables}
-use Rattle.sessions.specs.declared.table.Got.{Got}
-use Rattle.sessions.specs.declared.table.Got.TheVariants as got
-use Rattle.sessions.specs.declared.table.Named.{Named}
-use Rattle.sessions.specs.declared.table.Named.TheVariants as named
 use Rattle.moves.specs.Answers.{keeps_of, says_of, kept_sessions, kept_objects}
 use Rattle.moves.specs.Rows.{Rows, handled_move, handled_rows}
 use Rattle.moves.specs.declared.answers.Says.{Says}
@@ -30,12 +24,15 @@ use Rattle.agent.specs.Step.{Reply, replied, joined_replies}
 use Rattle.agent.specs.Run.{Turned, Acted, touched_in, touched_tables, acted, taken_of, delivered, inside_by, inside_turned, goes_on, work_in, work_at, entered_ran, left_acted, left_by, whole_len, with_acted, whole_turned, fragment_turned, sub_turned, turned, before, run_in, run_at}
 use Rattle.agent.specs.Answered.{sequence_of, says_bytes, says_streams, says_held, answered_by, answered_sessions, answered_streams, answered_objects, answered_held}
 use Rattle.agent.specs.Host.{begun_by, begun_sessions, begun_streams, begun_objects, begun_held, first_ran, behind, resumed_acted, resumed, performed}
-use Rattle.agent.specs.declared.judge.Resumes.{Resumes}
-use Rattle.agent.specs.declared.judge.Resumes.TheVariants as resumes
 use Rattle.agent.specs.declared.judge.Start.{Start}
 use Rattle.agent.specs.declared.turn.Frame.{Frame}
 use Rattle.agent.specs.declared.turn.Ran.{Ran}
 use Rattle.agent.specs.declared.turn.Taken.{Taken}
+use Rattle.std.specs.Prelude.{Err, None, Ok, Option, Result, Some}
+use Rattle.moves.specs.declared.proxy.BridgeAnswer.{BridgeAnswer}
+use Rattle.sessions.specs.declared.table.ClientSession.{ClientSession}
+use Rattle.codec.specs.declared.refusals.Refusal.{Refusal}
+use Rattle.moves.specs.declared.proxy.Task.{Task}
 
 -- a frame and a start with another room
 abbrev pub frame_at : Frame → ℕ → Frame
@@ -79,12 +76,12 @@ module _ (f : Frame) (room : ℕ) where
     acted_alike r wrote at u (Calls number task call) = refl
     acted_alike r wrote at u Silent = refl
 
-    delivered_alike : (w : Named) (t : Rows) (r : Ran) (wrote : ℕ) (x : Taken) → told_in (delivered w f t h d r x) 0 ≡ told_in (delivered w g t h d (counting r wrote) x) 0
-    delivered_alike named.Live t r wrote x =
+    delivered_alike : (w : Result Bool Refusal) (t : Rows) (r : Ran) (wrote : ℕ) (x : Taken) → told_in (delivered w f t h d r x) 0 ≡ told_in (delivered w g t h d (counting r wrote) x) 0
+    delivered_alike (Ok true) t r wrote x =
         let u = touched_in f t in
         acted_alike r wrote x.at (handled_rows x.asked u f.session_id f.stream_id) (handled_move f.moment.is_open x.asked u d f.session_id f.stream_id x.body)
-    delivered_alike named.NotLive t r wrote x = refl
-    delivered_alike (named.Refused z) t r wrote x = refl
+    delivered_alike (Ok false) t r wrote x = refl
+    delivered_alike (Err z) t r wrote x = refl
 
     -- ---- rebuilt submessages
 
@@ -127,9 +124,9 @@ module _ (f : Frame) (room : ℕ) where
     unfolding work_at
     work_alike r wrote t = works_alike (length d - r.at) r wrote t
 
-    left_alike : (q : Rebuilt) (n : ℕ) (r : Ran) (wrote at : ℕ) (t : Rows) → told_in (left_by q f h d n r at t) 0 ≡ told_in (left_by q g h d n (counting r wrote) at t) 0
-    left_alike (rebuilt.Subs k) n r wrote at t = ap (λ (z : Acted). left_acted z n at) (work_alike (entered_ran r) wrote t)
-    left_alike (rebuilt.Refused x) n r wrote at t = refl
+    left_alike : (q : Result ℕ Refusal) (n : ℕ) (r : Ran) (wrote at : ℕ) (t : Rows) → told_in (left_by q f h d n r at t) 0 ≡ told_in (left_by q g h d n (counting r wrote) at t) 0
+    left_alike (Ok k) n r wrote at t = ap (λ (z : Acted). left_acted z n at) (work_alike (entered_ran r) wrote t)
+    left_alike (Err x) n r wrote at t = refl
 
   -- ---- any submessage
 
@@ -196,16 +193,16 @@ module _ (f : Frame) (room : ℕ) where
     says_held_lem says.Data bytes = refl
 
     -- its reply and the tables
-    abbrev begun : Resumes → Frame → List Reply × Tables
+    abbrev begun : Option (ObjectNumber × Task × BridgeAnswer) → Frame → List Reply × Tables
     begun x f = (
       begun_by x t.sessions t.streams f sample,
       lent (begun_sessions x t.sessions t.objects f) (begun_streams x t.sessions t.streams t.held f sample)
           (begun_objects x t.sessions t.objects f) (begun_held x t.sessions t.streams t.held f sample) t.parts t.lengths t.rebuilt,
     )
 
-    begun_alike : (x : Resumes) → begun x f ≡ begun x g
-    begun_alike resumes.Nothing = refl
-    begun_alike (resumes.Answer number task a) = by (got_of t.sessions f.session_id)
+    begun_alike : (x : Option (ObjectNumber × Task × BridgeAnswer)) → begun x f ≡ begun x g
+    begun_alike None = refl
+    begun_alike (Some (number, task, a)) = by (got_of t.sessions f.session_id)
       where
         q : Says
         q = says_of task a
@@ -216,7 +213,7 @@ module _ (f : Frame) (room : ℕ) where
         bytes : says_bytes q f sequence number sample ≡ says_bytes q g sequence number sample
         bytes = says_bytes_lem q sequence number
 
-        answered : Got → Frame → List Reply × Tables
+        answered : Result (Option ClientSession) Refusal → Frame → List Reply × Tables
         answered w f = (
           answered_by w f sequence sample number task a,
           lent (answered_sessions w (keeps_of number task a) t.sessions t.objects f.session_id)
@@ -225,8 +222,8 @@ module _ (f : Frame) (room : ℕ) where
               (answered_held w q f t.sessions t.streams t.held (says_bytes q f sequence number sample)) t.parts t.lengths t.rebuilt,
         )
 
-        by : (w : Got) → answered w f ≡ answered w g
-        by (got.Session y) =
+        by : (w : Result (Option ClientSession) Refusal) → answered w f ≡ answered w g
+        by (Ok (Some y)) =
             let x = says_streams_lem q (says_bytes q f sequence number sample) ∙ ap (says_streams q g t.sessions t.streams t.held) bytes in
             let h = says_held_lem q (says_bytes q f sequence number sample) ∙ ap (says_held q g t.sessions t.streams t.held) bytes in
             λ i. (
@@ -234,8 +231,8 @@ module _ (f : Frame) (room : ℕ) where
               lent (kept_sessions (keeps_of number task a) t.sessions t.objects f.session_id) (x i) (kept_objects (keeps_of number task a) t.sessions t.objects f.session_id) (h i)
                   t.parts t.lengths t.rebuilt,
             )
-        by got.NotLive = refl
-        by (got.Refused r) = refl
+        by (Ok None) = refl
+        by (Err r) = refl
 
 -- and the rebuilt submessages that waited for it
 module _ (x : Start) (room : ℕ) (t : Tables) (sample : List ℕ) where

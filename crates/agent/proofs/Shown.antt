@@ -1,8 +1,8 @@
 -- No reply is hidden: the lent output after a call has the bytes of its replies, or a sweep's ids, and then what stood there before.
+use Rattle.std.specs.Prelude.{Option, None, Some}
 use mathlib.Core.Path.{◌≡◌, refl, sym, ap, ◌∙◌}
 use Prim.Native.Nat.{ℕ, ◌≤◌}
 use mathlib.Core.Bool.{Bool, true, false, cond}
-use mathlib.Core.Option.{Option, none, some}
 use mathlib.Core.List.{List, [], ◌∷◌, ◌++◌, map, append-nil}
 use native.Mathlib.Omega.{arith}
 use borrow.Author.Tests.{ltb-false}
@@ -58,26 +58,26 @@ module _ (is_open : ℕ → ℕ → Bool) (max timeout : ℕ) where
 
   stepped_shows : (w : Option Open) (st : Agent) (e : Event) (out : List ℕ) → Shows out (stepped w st e out)
   unfolding out_bytes
-  stepped_shows none st (datagram given bytes) out = go (is_minute given.day given.minute)
+  stepped_shows None st (datagram given bytes) out = go (is_minute given.day given.minute)
     where
       go : (b : Bool) → Shows out (cond b (begin st out given (reading bytes)) (refuse st out 20 0))
       go true = begin_shows st out given (reading bytes)
       go false = refuse_shows st out 20 0
-  stepped_shows none st (answer a) out = refuse_shows st out 15 0
-  stepped_shows none st (removal id) out = finish_shows st out (with_locals st (with_id id none st.tables.at)) [] (removed (is_live (st.tables.at id))) refl
-  stepped_shows none st (sweep now) out =
+  stepped_shows None st (answer a) out = refuse_shows st out 15 0
+  stepped_shows None st (removal id) out = finish_shows st out (with_locals st (with_id id None st.tables.at)) [] (removed (is_live (st.tables.at id))) refl
+  stepped_shows None st (sweep now) out =
       let ids = lapsed_ids st.timeout now st.tables.at in
       finish_shows st out (with_locals st (λ i. stays st.timeout now (st.tables.at i))) ids (swept ids) refl
-  stepped_shows (some w) st (datagram given bytes) out = refuse_shows st out 15 0
-  stepped_shows (some w) st (answer a) out = go (fits w.pending.asked.task a) (too_long w.pending.asked a) (over_held w a st.tables)
+  stepped_shows (Some w) st (datagram given bytes) out = refuse_shows st out 15 0
+  stepped_shows (Some w) st (answer a) out = go (fits w.pending.asked.task a) (too_long w.pending.asked a) (over_held w a st.tables)
     where
       go : (b c d : Bool) → Shows out (cond b (cond c (refuse st out 12 0) (cond d (refuse st out 14 0) (settle st out (continued st.max w a st.tables)))) (refuse st out 15 0))
       go true true d = refuse_shows st out 12 0
       go true false true = refuse_shows st out 14 0
       go true false false = settle_shows st out (continued st.max w a st.tables)
       go false c d = refuse_shows st out 15 0
-  stepped_shows (some w) st (removal id) out = refuse_shows st out 15 0
-  stepped_shows (some w) st (sweep now) out = refuse_shows st out 15 0
+  stepped_shows (Some w) st (removal id) out = refuse_shows st out 15 0
+  stepped_shows (Some w) st (sweep now) out = refuse_shows st out 15 0
 
   pub shown : Shown is_open max timeout
   unfolding step

@@ -1,6 +1,6 @@
 -- The FRAGMENTs of a datagram that can't complete their message: the least of their totals, one header at a time; what a session has received, which grows by one at most with each
 -- of them and with nothing else; and so a FRAGMENT of a sparse datagram gets no reply.
-use Prim.Native.Nat.{ℕ, zero, suc, ◌+◌, ◌-◌, ◌≤◌, ◌<◌}
+use Prim.Native.Nat.{ℕ, zero, suc, ◌+◌, ◌-◌, ◌≤◌, ◌<◌, min}
 use mathlib.Core.Path.{◌≡◌, refl, sym, ap, ◌∙◌, subst}
 use mathlib.Core.Bool.{Bool, true, false, cond, not}
 use mathlib.Core.List.{List, []}
@@ -14,17 +14,9 @@ use Rattle.codec.specs.Layouts.{least_of, layout_at, fragment_at, bodied_at}
 use Rattle.codec.specs.Submessages.{id_of}
 use Rattle.codec.specs.Reading.{payload_at, read_at, part_of}
 use Rattle.codec.specs.Reassembly.{under_need, is_free, store_over, grown, recounted, slot_over, insert_check, inserted_if, insert_check_of, insert_of, insert_slots, insert_lengths, assemble_of, new_of}
-use Rattle.codec.specs.declared.bytes.Written.{Written}
-use Rattle.codec.specs.declared.bytes.Written.TheVariants as written
 use Rattle.codec.specs.declared.layouts.Cursor.{Cursor}
-use Rattle.codec.specs.declared.layouts.Parsed.{Parsed}
-use Rattle.codec.specs.declared.layouts.Parsed.TheVariants as parsed
 use Rattle.codec.specs.declared.layouts.Span.{Span}
-use Rattle.codec.specs.declared.reassembly.Inserted.{Inserted}
-use Rattle.codec.specs.declared.reassembly.Inserted.TheVariants as inserted
 use Rattle.codec.specs.declared.reassembly.ReassemblyBuffer.{ReassemblyBuffer}
-use Rattle.codec.specs.declared.reassembly.StoreMade.TheVariants as made
-use Rattle.codec.specs.declared.rebuilt.Rebuilt.{Rebuilt}
 use Rattle.codec.specs.declared.refusals.Refusal.TheVariants.{BufferTooShort, PayloadLengthMismatch, OverLimit}
 use Rattle.codec.specs.declared.submessages.FragmentPayload.{FragmentPayload}
 use Rattle.codec.specs.declared.submessages.ObjectKind.{ObjectKind}
@@ -50,28 +42,18 @@ use Rattle.sessions.specs.View.{Tables}
 use Rattle.sessions.specs.declared.fragments.Gathered.{Gathered}
 use Rattle.sessions.specs.declared.fragments.Gathered.TheVariants as gathers
 use Rattle.sessions.specs.declared.objects.Object.{Object}
-use Rattle.sessions.specs.declared.objects.ObjectHandle.{ObjectHandle}
-use Rattle.sessions.specs.declared.objects.ObjectHandle.TheVariants.{Bridged, Implicit}
 use Rattle.sessions.specs.declared.objects.Stored.{Stored}
 use Rattle.sessions.specs.declared.objects.Stored.TheVariants as stored
 use Rattle.sessions.specs.declared.objects.Taken.{Taken as Removed}
 use Rattle.sessions.specs.declared.objects.Taken.TheVariants as removed
-use Rattle.sessions.specs.declared.opening.Created.{Created}
-use Rattle.sessions.specs.declared.opening.Created.TheVariants as created
 use Rattle.sessions.specs.declared.room.Room.{Room}
 use Rattle.sessions.specs.declared.room.Room.TheVariants as room
 use Rattle.sessions.specs.declared.table.ClientSession.{ClientSession}
-use Rattle.sessions.specs.declared.table.Got.{Got}
-use Rattle.sessions.specs.declared.table.Got.TheVariants as got
-use Rattle.sessions.specs.declared.table.Named.{Named}
-use Rattle.sessions.specs.declared.table.Named.TheVariants as named
 use Rattle.sessions.proofs.ViewTable.{kept_here, kept_elsewhere}
 use Rattle.moves.specs.Moves.{found_handle}
 use Rattle.moves.specs.Rows.{Rows, asks_of, created_sessions, room_sessions, handled_in}
 use Rattle.moves.specs.RowsStreams.{opened_sessions, read_sessions}
 use Rattle.moves.specs.Answers.{keeps_of}
-use Rattle.moves.specs.declared.answers.Keeps.{Keeps}
-use Rattle.moves.specs.declared.answers.Keeps.TheVariants as keeps
 use Rattle.moves.specs.declared.handle.Asked.{Asked}
 use Rattle.moves.specs.declared.handle.Group.{Group}
 use Rattle.moves.specs.declared.handle.Group.TheVariants.{Creates, Deletes, Writes, Reads, Streams, Neither}
@@ -80,14 +62,17 @@ use Rattle.agent.specs.Answered.{answered_sessions}
 use Rattle.agent.specs.Lent.{rows_of, rebuilt_part}
 use Rattle.agent.specs.Run.{Turned, touched_in, touched_tables, delivered, taken_of, whole_len, left_by, with_acted, whole_turned, fragment_turned, sub_turned, turned}
 use Rattle.agent.specs.Host.{begun_sessions, one_of, ids_at, unbound, total_at, lesser, headers_in, least_at, received_most, sparse, brings, bounded, roomy}
-use Rattle.agent.specs.declared.judge.Resumes.{Resumes}
-use Rattle.agent.specs.declared.judge.Resumes.TheVariants as resumes
 use Rattle.agent.specs.declared.judge.Start.{Start}
 use Rattle.agent.specs.declared.turn.Frame.{Frame}
 use Rattle.agent.specs.declared.turn.Ran.{Ran}
 use Rattle.agent.specs.declared.turn.Taken.{Taken}
 use Rattle.agent.proofs.Acknacks.{read_says_lem, next, headers_end, headers_more, headers_read, one_at, ids_read, is_bound}
 use Rattle.agent.proofs.Written.{none_part}
+use Rattle.std.specs.Prelude.{Err, None, Ok, Option, Result, Some}
+use Rattle.moves.specs.declared.proxy.BridgeAnswer.{BridgeAnswer}
+use Rattle.sessions.specs.declared.objects.Handle.{Handle}
+use Rattle.codec.specs.declared.refusals.Refusal.{Refusal}
+use Rattle.moves.specs.declared.proxy.Task.{Task}
 
 -- ---- the least total
 
@@ -117,6 +102,14 @@ lesser_second a b h = sym (ap (λ (c : Bool). cond c b a) (lt-ltb b a h))
 pub lesser_first : (a b : ℕ) → a ≤ b → a ≡ lesser a b
 lesser_first a b h = sym (ap (λ (c : Bool). cond c b a) (le-ltb b a h))
 
+pub lesser_min : (a b c : ℕ) → c ≡ min a b → c ≡ lesser a b
+lesser_min a b c e =
+    let l = lesser_is a b in
+    let h = l.most c (omega (arith, e)) (omega (arith, e)) in
+    let p = l.first in
+    let q = l.second in
+    omega (arith, e, h, p, q)
+
 pub lesser_few : (a b c : ℕ) → c ≡ lesser a b → a ≤ 65536 → c ≤ 65536
 lesser_few a b c e h = let l = (lesser_is a b).first in omega (arith, e, h, l)
 
@@ -144,7 +137,7 @@ module _ (d : List ℕ) where
   least at n = lesser (total_at d at) n
 
   -- where a submessage is read, it is at most that one's and at most the least behind it
-  least_read : (at : ℕ) (m : Submessage) (x : Span) (c : Cursor) → read_at d at ≡ parsed.Sub m x c → (least_at d at ≤ total_at d at) × (least_at d at ≤ least_at d c.at)
+  least_read : (at : ℕ) (m : Submessage) (x : Span) (c : Cursor) → read_at d at ≡ Ok (m, x, c) → (least_at d at ≤ total_at d at) × (least_at d at ≤ least_at d c.at)
   least_read at m x c e =
       let l = headers_read least 65536 d at m x c e in
       let z = lesser_is (total_at d at) (least_at d c.at) in
@@ -199,11 +192,11 @@ module _ (d : List ℕ) (at : ℕ) where
     total_there h n e few = (e ∙ total_by true false (eq-eqb (get_or d at 0) 0x0F own) (le-ltb (length d) (at + 8) h), omega (arith, few))
 
 -- a FRAGMENT that is read says its total
-abbrev total_in : Parsed → ℕ
-total_in (parsed.Sub m x c) = (asks_of m).second
-total_in (parsed.Refused r) = 0
+abbrev total_in : Result (Submessage × Span × Cursor) Refusal → ℕ
+total_in (Ok (m, x, c)) = (asks_of m).second
+total_in (Err r) = 0
 
-module _ (d : List ℕ) (at : ℕ) (p : FragmentPayload) (x : Span) (c : Cursor) (e : read_at d at ≡ parsed.Sub (sub.Fragment p) x c) where
+module _ (d : List ℕ) (at : ℕ) (p : FragmentPayload) (x : Span) (c : Cursor) (e : read_at d at ≡ Ok ((sub.Fragment p), x, c)) where
   own_id : get_or d at 0 ≡ 0x0F
   own_id = (read_says_lem d at (sub.Fragment p) x c e).own
 
@@ -222,7 +215,7 @@ module _ (d : List ℕ) (at : ℕ) (p : FragmentPayload) (x : Span) (c : Cursor)
   laid = go (ltb (length d) (at + 4 + len)) (ltb len 4) refl (sym (read_payload d at 0x0F len (let w = within in omega (arith, w)) own_id refl) ∙ e)
     where
       go : (a b : Bool) → ltb len 4 ≡ b
-          → cond a (parsed.Refused BufferTooShort) (cond b (parsed.Refused PayloadLengthMismatch) (bodied_at (fragment_at d (at + 4)) 4 (at + 4) len)) ≡ parsed.Sub (sub.Fragment p) x c
+          → cond a (Err BufferTooShort) (cond b (Err PayloadLengthMismatch) (bodied_at (fragment_at d (at + 4)) 4 (at + 4) len)) ≡ Ok ((sub.Fragment p), x, c)
           → (4 ≤ len) × (p.total_fragments ≡ word_at d (at + 4 + 2))
       go true b q z = let n : ◌≡◌ {A = ℕ} 0 1 = cc in absurd (omega (arith, n))
       go false true q z = let n : ◌≡◌ {A = ℕ} 0 1 = cc in absurd (omega (arith, n))
@@ -266,22 +259,22 @@ module _ (id : ℕ) where
   unfolding touched_rows
   touched_grows s time = go (named_of s id)
     where
-      go : (w : Named) → Grows 0 s (kept_rows w s id (touched_session (session_at s id) time))
-      go named.Live = kept_row s (touched_session (session_at s id) time) refl
-      go named.NotLive = grows_same s
-      go (named.Refused r) = grows_same s
+      go : (w : Result Bool Refusal) → Grows 0 s (kept_rows w s id (touched_session (session_at s id) time))
+      go (Ok true) = kept_row s (touched_session (session_at s id) time) refl
+      go (Ok false) = grows_same s
+      go (Err r) = grows_same s
 
-  stored_grows : (s : List (List ℕ)) (r : Stored) → Grows 0 s (keep_stored s id r)
-  stored_grows s (stored.Count n) = kept_row s (counted_session (session_at s id) n) refl
-  stored_grows s stored.Full = grows_same s
-  stored_grows s stored.NotLive = grows_same s
-  stored_grows s (stored.Refused r) = grows_same s
+  stored_grows : (s : List (List ℕ)) (r : Result Stored Refusal) → Grows 0 s (keep_stored s id r)
+  stored_grows s (Ok (stored.Count n)) = kept_row s (counted_session (session_at s id) n) refl
+  stored_grows s (Ok stored.Full) = grows_same s
+  stored_grows s (Ok stored.NotLive) = grows_same s
+  stored_grows s (Err r) = grows_same s
 
-  removed_grows : (s : List (List ℕ)) (x : Removed) → Grows 0 s (keep_removed s id x)
-  removed_grows s (removed.Gone o) = kept_row s (counted_session (session_at s id) (used_of s id - 1)) refl
-  removed_grows s removed.Depended = grows_same s
-  removed_grows s removed.Nothing = grows_same s
-  removed_grows s (removed.Refused r) = grows_same s
+  removed_grows : (s : List (List ℕ)) (x : Result Removed Refusal) → Grows 0 s (keep_removed s id x)
+  removed_grows s (Ok (removed.Gone o)) = kept_row s (counted_session (session_at s id) (used_of s id - 1)) refl
+  removed_grows s (Ok removed.Depended) = grows_same s
+  removed_grows s (Ok removed.Nothing) = grows_same s
+  removed_grows s (Err r) = grows_same s
 
   stream_grows : (s x : List (List ℕ)) (n : ℕ) → Grows 0 s (opened_sessions s x id n)
   unfolding stream_place
@@ -290,12 +283,12 @@ module _ (id : ℕ) where
       used : ℕ
       used = streams_used s id
 
-      go : (w : Named) → Grows 0 s (opened_count (place_by w s x id n) s id)
-      go named.Live =
+      go : (w : Result Bool Refusal) → Grows 0 s (opened_count (place_by w s x id n) s id)
+      go (Ok true) =
           either (λ p. Grows 0 s (opened_count p s id)) (ltb (first_from (is_stream x (first_stream id) n) used 0) used) _ _ (λ _. grows_same s) (λ _.
           either (λ p. Grows 0 s (opened_count p s id)) (leb 8 used) _ _ (λ _. grows_same s) (λ _. kept_row s (streamed_session (session_at s id) (used + 1)) refl))
-      go named.NotLive = grows_same s
-      go (named.Refused r) = grows_same s
+      go (Ok false) = grows_same s
+      go (Err r) = grows_same s
 
   created_grows : (k : ObjectKind) (s : List (List ℕ)) (o : List Object) (n : ObjectNumber) (p : ℕ) → Grows 0 s (created_sessions k s o id n p)
   created_grows Participant s o n p = grows_same s
@@ -305,20 +298,20 @@ module _ (id : ℕ) where
   created_grows DataWriter s o n p = grows_same s
   created_grows DataReader s o n p = grows_same s
 
-  room_grows : (r : Room) (s : List (List ℕ)) (o : List Object) (n : ObjectNumber) (k : ObjectKind) (p : ℕ) → Grows 0 s (room_sessions r s o id n k p)
-  room_grows room.Free s o n k p = created_grows k s o n p
-  room_grows room.Full s o n k p = grows_same s
-  room_grows room.Depended s o n k p = grows_same s
-  room_grows room.NotLive s o n k p = grows_same s
-  room_grows (room.Refused x) s o n k p = grows_same s
+  room_grows : (r : Result Room Refusal) (s : List (List ℕ)) (o : List Object) (n : ObjectNumber) (k : ObjectKind) (p : ℕ) → Grows 0 s (room_sessions r s o id n k p)
+  room_grows (Ok room.Free) s o n k p = created_grows k s o n p
+  room_grows (Ok room.Full) s o n k p = grows_same s
+  room_grows (Ok room.Depended) s o n k p = grows_same s
+  room_grows (Ok room.NotLive) s o n k p = grows_same s
+  room_grows (Err x) s o n k p = grows_same s
 
-  read_grows : (h : ObjectHandle) (s x : List (List ℕ)) (n : ℕ) → Grows 0 s (read_sessions h s x id n)
-  read_grows (Bridged h) s x n = go (eqb n 0)
+  read_grows : (h : Option Handle) (s x : List (List ℕ)) (n : ℕ) → Grows 0 s (read_sessions h s x id n)
+  read_grows (Some h) s x n = go (eqb n 0)
     where
       go : (b : Bool) → Grows 0 s (cond b s (opened_sessions s x id n))
       go true = grows_same s
       go false = stream_grows s x n
-  read_grows Implicit s x n = grows_same s
+  read_grows None s x n = grows_same s
 
   handled_grows : (g : Group) (q : Asked) (t : Rows) (n : ℕ) → Grows 0 t.sessions (handled_in g q t id n).sessions
   handled_grows Creates q t n = room_grows (room_of t.sessions t.objects id q.number) t.sessions t.objects q.number q.kind q.parent
@@ -329,27 +322,27 @@ module _ (id : ℕ) where
   handled_grows Neither q t n = grows_same t.sessions
 
   -- a session begins with none
-  create_grows : (c : Created) (t : Tables) (key time : ℕ) → Grows 0 t.sessions (create_tables c t key time).sessions
-  create_grows (created.Opened j next) t key time = grows_row 0 t.sessions j (new_session key time (free_slot t.sessions)) (omega arith)
-  create_grows (created.Refused r) t key time = grows_same t.sessions
+  create_grows : (c : Result (ℕ × ℕ) Refusal) (t : Tables) (key time : ℕ) → Grows 0 t.sessions (create_tables c t key time).sessions
+  create_grows (Ok (j, next)) t key time = grows_row 0 t.sessions j (new_session key time (free_slot t.sessions)) (omega arith)
+  create_grows (Err r) t key time = grows_same t.sessions
 
-begun_grows : (x : Resumes) (s : List (List ℕ)) (o : List Object) (f : Frame) → Grows f.session_id 0 s (begun_sessions x s o f)
-begun_grows resumes.Nothing s o f = grows_same f.session_id s
-begun_grows (resumes.Answer number task a) s o f = go (got_of s f.session_id) (keeps_of number task a)
+begun_grows : (x : Option (ObjectNumber × Task × BridgeAnswer)) (s : List (List ℕ)) (o : List Object) (f : Frame) → Grows f.session_id 0 s (begun_sessions x s o f)
+begun_grows None s o f = grows_same f.session_id s
+begun_grows (Some (number, task, a)) s o f = go (got_of s f.session_id) (keeps_of number task a)
   where
-    go : (g : Got) (k : Keeps) → Grows f.session_id 0 s (answered_sessions g k s o f.session_id)
-    go (got.Session y) (keeps.Object z) = stored_grows f.session_id s (stored_object s o f.session_id z)
-    go (got.Session y) keeps.Nothing = grows_same f.session_id s
-    go got.NotLive k = grows_same f.session_id s
-    go (got.Refused r) k = grows_same f.session_id s
+    go : (g : Result (Option ClientSession) Refusal) (k : Option Object) → Grows f.session_id 0 s (answered_sessions g k s o f.session_id)
+    go (Ok (Some y)) (Some z) = stored_grows f.session_id s (stored_object s o f.session_id z)
+    go (Ok (Some y)) None = grows_same f.session_id s
+    go (Ok None) k = grows_same f.session_id s
+    go (Err r) k = grows_same f.session_id s
 
 -- ---- a FRAGMENT, over its session's store: it counts one more at most, and completes nothing where one more isn't its total
 
 -- the store that it leaves
-abbrev Counts : ReassemblyBuffer → Inserted → Type 0
-Counts b (inserted.Held after all) =
+abbrev Counts : ReassemblyBuffer → Result (ReassemblyBuffer × Bool) Refusal → Type 0
+Counts b (Ok (after, all)) =
     (after.received_count ≤ b.received_count + 1) × (after.total_fragments ≡ b.total_fragments) × (all ≡ eqb after.received_count after.total_fragments)
-Counts b (inserted.Refused r) = Unit {0}
+Counts b (Err r) = Unit {0}
 
 grown_few : (n held : ℕ) → grown n held ≤ n + 1
 unfolding grown
@@ -363,7 +356,7 @@ insert_counts : (b : ReassemblyBuffer) (slots lengths : List ℕ) (nr : ℕ) (bo
 unfolding insert_of insert_check_of insert_check
 insert_counts b slots lengths nr body =
     let held = get_or lengths nr 0 in
-    let answer = inserted.Held (recounted b held) (eqb (grown b.received_count held) b.total_fragments) in
+    let answer = Ok ((recounted b held), (eqb (grown b.received_count held) b.total_fragments)) in
     either (λ k. Counts b (inserted_if k answer)) (store_over b (length slots) (length lengths)) _ _ (λ _. tt) (λ _.
     either (λ k. Counts b (inserted_if k answer)) (ltb nr b.total_fragments) _ _ (λ _.
     either (λ k. Counts b (inserted_if k answer)) (slot_over b held) _ _ (λ _. tt) (λ _.
@@ -380,18 +373,18 @@ module _ (s : ClientSession) (total : ℕ) where
     held_added : (after : ReassemblyBuffer) → after.received_count ≤ b.received_count + 1 → Adds (gathers.Held after)
     held_added after h = (omega (arith, h, few), λ _. refl)
 
-    assembled_added : (after : ReassemblyBuffer) → after.received_count ≤ b.received_count + 1 → after.received_count ≡ total → (w : Written) → Adds (assembled_as w after)
-    assembled_added after h e (written.Bytes n) = (omega arith, λ l. absurd (omega (arith, h, few, e, l)))
-    assembled_added after h e (written.Refused r) = held_added after h
+    assembled_added : (after : ReassemblyBuffer) → after.received_count ≤ b.received_count + 1 → after.received_count ≡ total → (w : Result ℕ Refusal) → Adds (assembled_as w after)
+    assembled_added after h e (Ok n) = (omega arith, λ l. absurd (omega (arith, h, few, e, l)))
+    assembled_added after h e (Err r) = held_added after h
 
-    insert_added : (i : Inserted) → Counts b i → Adds (gathered_by i parts lengths rebuilt)
-    insert_added (inserted.Held after true) k =
+    insert_added : (i : Result (ReassemblyBuffer × Bool) Refusal) → Counts b i → Adds (gathered_by i parts lengths rebuilt)
+    insert_added (Ok (after, true)) k =
         assembled_added after k.0 (eqb-true after.received_count after.total_fragments (sym k.2) ∙ (k.1 ∙ its)) (assemble_of after parts lengths rebuilt)
-    insert_added (inserted.Held after false) k = held_added after k.0
-    insert_added (inserted.Refused r) k = none_added
+    insert_added (Ok (after, false)) k = held_added after k.0
+    insert_added (Err r) k = none_added
 
   store_added : (b : ReassemblyBuffer) → b.received_count ≤ s.received → b.total_fragments ≡ total → (parts lengths rebuilt : List ℕ) (nr : ℕ) (body : List ℕ)
-      → Adds (gathered_with (made.Store b) parts lengths rebuilt nr body)
+      → Adds (gathered_with (Ok b) parts lengths rebuilt nr body)
   store_added b few its parts lengths rebuilt nr body =
       insert_added b few its (insert_slots b parts lengths nr body) (insert_lengths b parts lengths nr body) rebuilt (insert_of b parts lengths nr body) (insert_counts b parts lengths nr body)
 
@@ -405,7 +398,7 @@ module _ (s : ClientSession) (total : ℕ) where
       go : (same low short : Bool)
           → Adds
           (gathered_with
-          (cond same (cond low (made.Store (buffer_with total s.received)) (made.Refused OverLimit)) (cond short (made.Refused OverLimit) (made.Store (buffer_with total 0))))
+          (cond same (cond low (Ok (buffer_with total s.received)) (Err OverLimit)) (cond short (Err OverLimit) (Ok (buffer_with total 0))))
           parts entries rebuilt nr body)
       go true true short = store_added (buffer_with total s.received) (omega arith) refl parts entries rebuilt nr body
       go true false short = none_added
@@ -447,7 +440,7 @@ module _ (f : Frame) (d : List ℕ) where
   unfolding fragment_turned
   fragment_goes t r x low =
       subst (λ (n : ℕ). Goes 1 t (whole_turned f v n r x.at)) (sym zero_long)
-      (subst (λ (y : Rebuilt). Goes 1 t (with_acted v (left_by y f v.held (rebuilt_part v.rebuilt 0) 0 r x.at (rows_of v))))
+      (subst (λ (y : Result ℕ Refusal). Goes 1 t (with_acted v (left_by y f v.held (rebuilt_part v.rebuilt 0) 0 r x.at (rows_of v))))
       (whole_none (rebuilt_part v.rebuilt 0) (ap length (none_part v.rebuilt)))
       (record { more = omega (arith, touched, grows); silent = λ _. refl }))
     where
@@ -466,17 +459,17 @@ module _ (f : Frame) (d : List ℕ) where
       zero_long : whole_len (gathered u.sessions u.parts u.lengths u.rebuilt mine x.asked.first x.asked.second (part_of d x.body)) ≡ 0
       zero_long = (gathered_added mine u.sessions u.parts u.lengths u.rebuilt x.asked.first x.asked.second (part_of d x.body)).1 (omega (arith, touched, low))
 
-  delivered_grows : (w : Named) (t : Rows) (h : List ℕ) (r : Ran) (x : Taken) → Grows mine 0 t.sessions (delivered w f t h d r x).rows.sessions
-  delivered_grows named.Live t h r x =
+  delivered_grows : (w : Result Bool Refusal) (t : Rows) (h : List ℕ) (r : Ran) (x : Taken) → Grows mine 0 t.sessions (delivered w f t h d r x).rows.sessions
+  delivered_grows (Ok true) t h r x =
       let a = touched_grows mine t.sessions f.moment.time in
       let b = handled_grows mine x.asked.group x.asked (touched_in f t) f.stream_id in
       omega (arith, a, b)
-  delivered_grows named.NotLive t h r x = touched_grows mine t.sessions f.moment.time
-  delivered_grows (named.Refused y) t h r x = touched_grows mine t.sessions f.moment.time
+  delivered_grows (Ok false) t h r x = touched_grows mine t.sessions f.moment.time
+  delivered_grows (Err y) t h r x = touched_grows mine t.sessions f.moment.time
 
   module _ (t : Tables) (r : Ran) (z : Span) (c : Cursor) where
     abbrev took : Submessage → Taken
-    took m = taken_of (parsed.Sub m z c) (length d)
+    took m = taken_of (Ok (m, z, c)) (length d)
 
     opening_goes : (m : Submessage) → Goes 0 t (sub_turned Client f t d r (took m))
     opening_goes m =
@@ -503,12 +496,12 @@ module _ (f : Frame) (d : List ℕ) where
   abbrev pub Sparse : List (List ℕ) → ℕ → Type 0
   Sparse s at = 0 < ids_at 0x0F d at → received mine s + ids_at 0x0F d at < least_at d at
 
-  module _ (at : ℕ) (m : Submessage) (z : Span) (c : Cursor) (e : read_at d at ≡ parsed.Sub m z c) where
+  module _ (at : ℕ) (m : Submessage) (z : Span) (c : Cursor) (e : read_at d at ≡ Ok (m, z, c)) where
     -- nor does the first
     first_sparse : (s : List (List ℕ)) → Sparse s at → one_of 0x0F (id_of m) ≡ 1 → received mine s + 1 < (asks_of m).second
     first_sparse s q one = total_of m e one
       where
-        total_of : (m : Submessage) → read_at d at ≡ parsed.Sub m z c → one_of 0x0F (id_of m) ≡ 1 → received mine s + 1 < (asks_of m).second
+        total_of : (m : Submessage) → read_at d at ≡ Ok (m, z, c) → one_of 0x0F (id_of m) ≡ 1 → received mine s + 1 < (asks_of m).second
         total_of (sub.Fragment p) k o =
             let i = ids_read 0x0F d at (sub.Fragment p) z c k in
             let w : one_at 0x0F d at ≡ 1 = ap (one_of 0x0F) (own_id d at p z c k) in
@@ -534,7 +527,7 @@ module _ (f : Frame) (d : List ℕ) where
         omega (arith, i, l, b, g)
 
   -- the turn of a run: what is behind it is sparse again, and a FRAGMENT is silent
-  module _ (t : Tables) (r : Ran) (m : Submessage) (z : Span) (c : Cursor) (e : read_at d r.at ≡ parsed.Sub m z c) (q : Sparse t.sessions r.at) where
+  module _ (t : Tables) (r : Ran) (m : Submessage) (z : Span) (c : Cursor) (e : read_at d r.at ≡ Ok (m, z, c)) (q : Sparse t.sessions r.at) where
     turned_goes : Goes (one_at 0x0F d r.at) t (turned f t d r)
     unfolding turned
     turned_goes =

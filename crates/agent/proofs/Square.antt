@@ -3,7 +3,6 @@ use Prim.Native.Nat.{ℕ, ◌<◌}
 use mathlib.Core.Path.{◌≡◌, refl, sym, ap, ◌∙◌}
 use mathlib.Core.Logic.{◌≢◌}
 use mathlib.Core.Bool.{Bool, false}
-use mathlib.Core.Option.{Option, none, some}
 use mathlib.Core.List.{List, [], ◌∷◌}
 use lib.ListN.{length}
 use Rattle.codec.specs.Reading.{part_of}
@@ -15,7 +14,6 @@ use Rattle.sessions.specs.SessionObjects.{objects_named}
 use Rattle.sessions.specs.SessionStreams.{streams_named}
 use Rattle.sessions.specs.View.{Tables, Local, table_part, session_shown, local_of, absent}
 use Rattle.sessions.specs.Calls.{SoundStream, SoundTables, LeadsTo}
-use Rattle.sessions.specs.declared.table.Named.TheVariants.{Live}
 use Rattle.sessions.proofs.Reached.{free_view, objects_live, streams_live}
 use Rattle.moves.specs.Replies.{status_bytes, acknack_bytes}
 use Rattle.moves.specs.Proxy.{call_as, task_as}
@@ -26,6 +24,7 @@ use Rattle.agent.specs.Run.{repeats_in}
 use Rattle.moves.specs.Rows.{asks_of, handled_move, handled_rows}
 use Rattle.moves.specs.declared.moves.Move as code
 use Rattle.moves.specs.declared.moves.Move.TheVariants.{Greets, Status, Acknack, Repeats, Calls, Silent}
+use Rattle.std.specs.Prelude.{Ok, true, Option, None, Some}
 
 -- the code's move as the rules': the session that is left, and what it says or asks; what is repeated is read off the tables that are left
 abbrev pub outcome : List ℕ → Tables → ℕ → ℕ → Local → code.Move → Move
@@ -43,7 +42,7 @@ shown_at t id = session_shown id (table_part t id)
 -- a rule's move for session id over t, on stream n, against the tables that are left and the code's move
 pub record Meets (t : Tables) (d : List ℕ) (id n : ℕ) (rule : Move) (t' : Tables) (m : code.Move) : Type 0 where
   pub after : Local
-  pub shows : local_of t' id ≡ some after
+  pub shows : local_of t' id ≡ Some after
   pub moves : rule ≡ outcome d t' id n after m
   pub elsewhere : (j : ℕ) → j ≢ id → local_of t' j ≡ local_of t j
 
@@ -58,25 +57,25 @@ Squares is_open m t d id n body =
 
 -- ---- a live session
 
-pub shown_live : (t : Tables) (id : ℕ) → is_free t.sessions id ≡ false → local_of t id ≡ some (shown_at t id)
+pub shown_live : (t : Tables) (id : ℕ) → is_free t.sessions id ≡ false → local_of t id ≡ Some (shown_at t id)
 shown_live t id live = rw live refl
 
-pub live_shown : (t : Tables) (id : ℕ) (l : Local) → local_of t id ≡ some l → is_free t.sessions id ≡ false
+pub live_shown : (t : Tables) (id : ℕ) (l : Local) → local_of t id ≡ Some l → is_free t.sessions id ≡ false
 live_shown t id l e = free_view t id ∙ by (local_of t id) e
   where
-    by : (x : Option Local) → x ≡ some l → absent x ≡ false
-    by none e = ap absent e
-    by (some k) e = refl
+    by : (x : Option Local) → x ≡ Some l → absent x ≡ false
+    by None e = ap absent e
+    by (Some k) e = refl
 
-pub same_local : (t : Tables) (id : ℕ) (l : Local) → local_of t id ≡ some l → shown_at t id ≡ l
-same_local t id l e = let z : some (shown_at t id) ≡ some l = sym (shown_live t id (live_shown t id l e)) ∙ e in cc
+pub same_local : (t : Tables) (id : ℕ) (l : Local) → local_of t id ≡ Some l → shown_at t id ≡ l
+same_local t id l e = let z : Some (shown_at t id) ≡ Some l = sym (shown_live t id (live_shown t id l e)) ∙ e in cc
 
 -- what is reached of it
 module _ {most : ℕ} (t : Tables) (sound : SoundTables SoundStream most t) (id : ℕ) (id< : id < 256) (live : is_free t.sessions id ≡ false) where
-  pub reach_objects : objects_named t.sessions (length t.objects) id ≡ Live
+  pub reach_objects : objects_named t.sessions (length t.objects) id ≡ (Ok true)
   reach_objects = objects_live t.sessions id sound.sessions_need_lem (length t.objects) sound.objects_need_lem (sound.each id id<).few_objects live
 
-  pub reach_streams : streams_named t.sessions (length t.streams) id ≡ Live
+  pub reach_streams : streams_named t.sessions (length t.streams) id ≡ (Ok true)
   reach_streams = streams_live t.sessions id sound.sessions_need_lem (length t.streams) sound.streams_need_lem (sound.each id id<).few_streams live
 
 -- ---- calls one behind the other keep the tables sound

@@ -3,7 +3,6 @@ use Prim.Native.Nat.{ℕ, ◌<◌, ◌≤◌}
 use mathlib.Core.Path.{◌≡◌, refl, sym, ap, ◌∙◌, subst}
 use mathlib.Core.Logic.{◌≢◌}
 use mathlib.Core.Bool.{Bool, true, false, cond}
-use mathlib.Core.Option.{Option, none, some}
 use mathlib.Core.List.{List, [], ◌∷◌, ◌++◌}
 use native.Mathlib.Omega.{arith}
 use borrow.Author.Tests.{eqb-false, ltb-false}
@@ -19,10 +18,6 @@ use Rattle.sessions.specs.Sending.{sent_streams, sent_held}
 use Rattle.sessions.specs.View.{Tables, KeptStream, Local, local_of, entry_of, put_in, stream_in, write_in}
 use Rattle.sessions.specs.Calls.{SoundStream, SoundTables, LeadsTo}
 use Rattle.sessions.specs.declared.objects.Handle.{Handle}
-use Rattle.sessions.specs.declared.table.Got.{Got}
-use Rattle.sessions.specs.declared.table.Got.TheVariants as got
-use Rattle.sessions.specs.declared.table.Named.{Named}
-use Rattle.sessions.specs.declared.table.Named.TheVariants.{Live, NotLive}
 use Rattle.sessions.proofs.Reached.{named_when}
 use Rattle.sessions.proofs.SoundStreams.{stream_lasts}
 use Rattle.sessions.proofs.Steps.{same_led, put_led}
@@ -52,7 +47,6 @@ use Rattle.moves.specs.declared.proxy.BridgeAnswer.{BridgeAnswer}
 use Rattle.moves.specs.declared.proxy.BridgeAnswer.TheVariants.{Created, Done, Sample, NoSample, Failed}
 use Rattle.moves.specs.declared.proxy.Task.{Task}
 use Rattle.moves.specs.declared.proxy.Task.TheVariants.{Creating, Writing, Reading, Deleting}
-use Rattle.agent.specs.declared.judge.Resumes.TheVariants as resumes
 use Rattle.agent.specs.declared.judge.Start.{Start}
 use Rattle.agent.specs.declared.turn.Frame.{Frame}
 use Rattle.agent.specs.declared.turn.Ran.{Ran}
@@ -65,6 +59,9 @@ use Rattle.agent.proofs.SquareFragments.{Left, Moved, Acts, Quiet, left_acts}
 use Rattle.agent.proofs.SquareObjects.{slot_in}
 use Rattle.agent.proofs.SquareOpen.{view_of, at_in}
 use Rattle.agent.proofs.SquareRebuilt.{work_square, still_square}
+use Rattle.std.specs.Prelude.{None, Ok, Result, Some, Option}
+use Rattle.sessions.specs.declared.table.ClientSession.{ClientSession}
+use Rattle.codec.specs.declared.refusals.Refusal.{Refusal}
 
 module _ {most : ℕ} (t : Tables) (sound : SoundTables SoundStream most t) (few : most ≤ 255) (f : Frame) (id< : f.session_id < 256) (number : ObjectNumber) (sample : List ℕ) where
   abbrev id : ℕ
@@ -100,7 +97,7 @@ module _ {most : ℕ} (t : Tables) (sound : SoundTables SoundStream most t) (few
   pub record Answers (m : Move) (bytes : List ℕ) (t' : Tables) : Type 0 where
     pub after : Local
     pub moves : m ≡ done after (bytes ∷ [])
-    pub shows : local_of t' id ≡ some after
+    pub shows : local_of t' id ≡ Some after
     pub elsewhere : (j : ℕ) → j < 256 → j ≢ id → local_of t' j ≡ local_of t j
     pub led : LeadsTo SoundStream most t t'
 
@@ -116,7 +113,7 @@ module _ {most : ℕ} (t : Tables) (sound : SoundTables SoundStream most t) (few
         let reached = reach_objects t sound id id< live in
         let slot = slot_in t sound id id< live [] 0 (record { start = 0; len = 0 }) number e in
         record {
-          after = listing number.0 kind (some h.0) parent l;
+          after = listing number.0 kind (Some h.0) parent l;
           moves = refl;
           shows = put_here t id id< reached o slot (sound.each id id<).objects_differ ∙ ap (stores.with_objects (put_in l.objects (entry_of o))) (shown_live t id live);
           elsewhere = λ j q. put_elsewhere t id id< reached o slot j;
@@ -138,10 +135,10 @@ module _ {most : ℕ} (t : Tables) (sound : SoundTables SoundStream most t) (few
 
     sampled : n ≢ 0 → length (data_if false) ≤ 1024 → (x : Option KeptStream) → stream_in l.streams n ≡ x → crowded x ≡ false
         → Answers (sample_on n number.0 sample x l) (data_if false) (sent_if false)
-    sampled o h none e c =
-        subst (Answers (sample_on n number.0 sample none l) (data_if false)) (sym (send_unopened most t sound few id id< live n (data_if false) e))
-        (subst (λ (q : ℕ). Answers (sample_on n number.0 sample none l) (data_bytes id n q number.0 sample) t) (sym (next_none most t sound few id id< live n e)) (plain (data_bytes id n 0 number.0 sample)))
-    sampled o h (some k) e c =
+    sampled o h None e c =
+        subst (Answers (sample_on n number.0 sample None l) (data_if false)) (sym (send_unopened most t sound few id id< live n (data_if false) e))
+        (subst (λ (q : ℕ). Answers (sample_on n number.0 sample None l) (data_bytes id n q number.0 sample) t) (sym (next_none most t sound few id id< live n e)) (plain (data_bytes id n 0 number.0 sample)))
+    sampled o h (Some k) e c =
         record {
           after = sending (data_if false) k l;
           moves = ap (λ (q : ℕ). let bytes = data_bytes id n q number.0 sample in done (sending bytes k l) (bytes ∷ [])) (sym (next_view most t sound few id id< live n k e));
@@ -192,7 +189,7 @@ module _ {most : ℕ} (t : Tables) (sound : SoundTables SoundStream most t) (few
 module _ (t : Tables) (f : Frame) (sound : SoundTables SoundStream f.max_clients t) (few : f.max_clients ≤ 255) (id< : f.session_id < 256) (n< : f.stream_id < 256)
     (number : ObjectNumber) (task : Task) (b : BridgeAnswer) (sample d : List ℕ) (next at left-at left-end : ℕ) (left : Left t.rebuilt left-at left-end) where
   abbrev start : Start
-  start = record { frame = f; next = next; at = at; left_at = left-at; left_end = left-end; resumes = resumes.Answer number task b }
+  start = record { frame = f; next = next; at = at; left_at = left-at; left_end = left-end; resumes = Some (number, task, b) }
 
   abbrev session : ℕ
   session = f.session_id
@@ -204,36 +201,36 @@ module _ (t : Tables) (f : Frame) (sound : SoundTables SoundStream f.max_clients
   kept_open = record { asked = pending t sound few f id< number sample task; left = waits }
 
   -- behind the answer, by whether its session is live
-  abbrev begun : Got → Tables
+  abbrev begun : Result (Option ClientSession) Refusal → Tables
   begun g =
       let bytes = said t sound few f id< number sample task b in
       lent (answered_sessions g (keeps_of number task b) t.sessions t.objects session) (answered_streams g (says_of task b) f t.sessions t.streams t.held bytes)
       (answered_objects g (keeps_of number task b) t.sessions t.objects session) (answered_held g (says_of task b) f t.sessions t.streams t.held bytes) t.parts t.lengths t.rebuilt
 
-  abbrev replies : Got → List Reply
+  abbrev replies : Result (Option ClientSession) Refusal → List Reply
   replies g = answered_by g f (sequence_of t.sessions t.streams f) sample number task b
 
-  abbrev first : Got → Ran
+  abbrev first : Result (Option ClientSession) Refusal → Ran
   first g = first_ran start (length (joined_replies (replies g)))
 
-  abbrev work : Got → Acted
+  abbrev work : Result (Option ClientSession) Refusal → Acted
   work g = work_at f (begun g).held (rebuilt_part t.rebuilt left-end) (first g) (rows_of (begun g))
 
-  abbrev turned_by : Got → Turned
+  abbrev turned_by : Result (Option ClientSession) Refusal → Turned
   turned_by g = record { ran = left_ran (work g).ran left-end at; tables = with_rows (begun g) (work g).rows; replies = replies g ++ (work g).replies }
 
   resumed_by : host.resumed start t sample ≡ turned_by (got_of t.sessions session)
   unfolding host.resumed_acted
   resumed_by = refl
 
-  got_is : (c : Bool) → is_free t.sessions session ≡ c → got_of t.sessions session ≡ got_by (cond c NotLive Live) t.sessions session
+  got_is : (c : Bool) → is_free t.sessions session ≡ c → got_of t.sessions session ≡ got_by (cond c (Ok false) (Ok true)) t.sessions session
   unfolding got_of
-  got_is c z = ap (λ (w : Named). got_by w t.sessions session) (named_when t.sessions session sound.sessions_need_lem ∙ ap (λ (c : Bool). cond c NotLive Live) z)
+  got_is c z = ap (λ (w : Result Bool Refusal). got_by w t.sessions session) (named_when t.sessions session sound.sessions_need_lem ∙ ap (λ (c : Bool). cond c (Ok false) (Ok true)) z)
 
   pub resumes_acts : (rest : List (Sub Opening In)) → is_free t.sessions session ≡ false → RoomFor (task_as task) number.0 (shown_at t session) → Held t sound few f id< number sample task b waits rest next
       → Acts f d t next at (resumed (shown_at t session) kept_open (answer_as b sample)) (host.resumed start t sample)
   resumes_acts rest live e w =
-      let g = got.Session (session_at t.sessions session) in
+      let g = Ok (Some (session_at t.sessions session)) in
       let a = answers t sound few f id< number sample live task b waits rest next e w in
       let k = work_square f (rebuilt_part t.rebuilt left-end) (begun g) few id< n< (first g) (rows_of (begun g)) a.after left.said a.led.sound a.shows refl left.within left.reads left.none_barred in
       let q = left_acts f d (begun g) (first g) (rows_of (begun g)) a.after (work g) left-end at left.few k (said t sound few f id< number sample task b ∷ []) in
@@ -252,7 +249,7 @@ module _ (t : Tables) (f : Frame) (sound : SoundTables SoundStream f.max_clients
 
   pub resumes_quiet : is_free t.sessions session ≡ true → Quiet t next at (host.resumed start t sample)
   resumes_quiet free =
-      let gone = named_when t.sessions session sound.sessions_need_lem ∙ ap (λ (c : Bool). cond c NotLive Live) free in
-      let o = still_square f (rebuilt_part t.rebuilt left-end) t (rows_of t) gone (first got.NotLive) in
+      let gone = named_when t.sessions session sound.sessions_need_lem ∙ ap (λ (c : Bool). cond c (Ok false) (Ok true)) free in
+      let o = still_square f (rebuilt_part t.rebuilt left-end) t (rows_of t) gone (first (Ok None)) in
       subst (Quiet t next at) (sym (resumed_by ∙ ap turned_by (got_is true free)))
-      record { tables = ap (with_rows t) o.rows; replies = o.replies; stop = ap (λ (x : Stop). inside_stop x (work got.NotLive).ran.at left-end) o.stop; pointer = o.next; place = refl }
+      record { tables = ap (with_rows t) o.rows; replies = o.replies; stop = ap (λ (x : Stop). inside_stop x (work (Ok None)).ran.at left-end) o.stop; pointer = o.next; place = refl }

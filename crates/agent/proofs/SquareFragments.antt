@@ -3,7 +3,6 @@ use Prim.Native.Nat.{ℕ, zero, suc, ◌+◌, ◌<◌, ◌≤◌}
 use mathlib.Core.Path.{◌≡◌, refl, sym, ap, ◌∙◌, subst}
 use mathlib.Core.Logic.{◌≢◌}
 use mathlib.Core.Bool.{Bool, true, false, cond}
-use mathlib.Core.Option.{Option, none, some}
 use mathlib.Core.List.{List, [], ◌∷◌, ◌++◌, map, map-map}
 use native.Mathlib.Omega.{arith}
 use borrow.Author.Tests.{le-leb}
@@ -12,8 +11,6 @@ use Rattle.codec.specs.Reading.{part_of, Item, items, items_at}
 use Rattle.codec.specs.Grammar.{Said, said_in}
 use Rattle.codec.specs.Rebuilt.{any_barred, rebuilt_of}
 use Rattle.codec.specs.declared.layouts.Span.{Span}
-use Rattle.codec.specs.declared.rebuilt.Rebuilt.{Rebuilt}
-use Rattle.codec.specs.declared.rebuilt.Rebuilt.TheVariants as rebuilt
 use Rattle.codec.specs.declared.refusals.Refusal.{Refusal}
 use Rattle.codec.specs.declared.refusals.Refusal.TheVariants.{BufferTooShort}
 use Rattle.codec.specs.declared.submessages.FragmentPayload.{FragmentPayload}
@@ -28,7 +25,6 @@ use Rattle.sessions.specs.View.{Tables, Local, local_of}
 use Rattle.sessions.specs.Calls.{SoundStream, SoundTables, LeadsTo, gather_tables}
 use Rattle.sessions.specs.declared.fragments.Gathered.{Gathered}
 use Rattle.sessions.specs.declared.fragments.Gathered.TheVariants as gathered
-use Rattle.sessions.specs.declared.table.Named.TheVariants.{NotLive}
 use Rattle.sessions.proofs.SoundStreams.{stream_lasts}
 use Rattle.sessions.proofs.StepsFragments.{gather_led}
 use Rattle.sessions.proofs.ViewFragments as fragments
@@ -55,6 +51,7 @@ use Rattle.agent.proofs.Written.{none_part, no_bytes}
 use Rattle.agent.proofs.Square.{outcome, Meets, led_on, same_local}
 use Rattle.agent.proofs.SquareHandled.{touches_led, touch_shown, touch_live, turn_led, turn_square}
 use Rattle.agent.proofs.SquareRebuilt.{asked_as, map_behind, Worked, Works, untouched, work_square}
+use Rattle.std.specs.Prelude.{Err, Ok, Result, Option, None, Some}
 
 -- ---- rebuilt bytes in their place
 
@@ -94,7 +91,7 @@ pub record Acts (f : Frame) (d : List ℕ) (t : Tables) (next at : ℕ) (rule : 
   pub after : Local
   pub bytes : List Bytes
   pub replies : x.replies ≡ map (replied f.session_id) bytes
-  pub shows : local_of x.tables f.session_id ≡ some after
+  pub shows : local_of x.tables f.session_id ≡ Some after
   pub moves : Moved f d x.tables.rebuilt x.ran.stop after bytes rule
   pub elsewhere : (j : ℕ) → j < 256 → j ≢ f.session_id → local_of x.tables j ≡ local_of t j
   pub led : LeadsTo SoundStream f.max_clients t x.tables
@@ -148,7 +145,7 @@ module _ (f : Frame) (d : List ℕ) (max≤ : f.max_clients ≤ 255) (id< : f.se
 
   -- ---- a submessage as it stands
 
-  module _ (l : Local) (is : local_of t id ≡ some l) (m : Submessage) (body : Span) where
+  module _ (l : Local) (is : local_of t id ≡ Some l) (m : Submessage) (body : Span) where
     abbrev i : In
     i = in_of f.moment n m (part_of d body)
 
@@ -199,7 +196,7 @@ module _ (f : Frame) (d : List ℕ) (max≤ : f.max_clients ≤ 255) (id< : f.se
 
   -- ---- a FRAGMENT
 
-  whole_missing : (a : Gathered) → whole_in a ≡ none → whole_len a ≡ 0
+  whole_missing : (a : Gathered) → whole_in a ≡ None → whole_len a ≡ 0
   whole_missing gathered.Nothing e = refl
   whole_missing (gathered.Held b) e = refl
   whole_missing (gathered.Whole k) e = let z : ◌≡◌ {A = ℕ} 0 1 = cc in absurd (omega arith)
@@ -217,7 +214,7 @@ module _ (f : Frame) (d : List ℕ) (max≤ : f.max_clients ≤ 255) (id< : f.se
     abbrev taken : Taken
     taken = record { asked = asks_of (sub.Fragment p); body = body; at = at }
 
-    module _ (l : Local) (is : local_of t id ≡ some l) where
+    module _ (l : Local) (is : local_of t id ≡ Some l) where
       abbrev fragment : In
       fragment = in_of f.moment n (sub.Fragment p) bytes
 
@@ -236,7 +233,7 @@ module _ (f : Frame) (d : List ℕ) (max≤ : f.max_clients ≤ 255) (id< : f.se
       led_gathered : LeadsTo SoundStream max t g
       led_gathered = led_on led_touched (gather_led SoundStream stream_lasts max touched_ones led_touched.sound id id< nr total bytes)
 
-      shown : local_of touched_ones id ≡ some (touched f.moment.time l)
+      shown : local_of touched_ones id ≡ Some (touched f.moment.time l)
       shown = touch_shown t sound max≤ id id< f.moment l is
 
       live : is_free touched_ones.sessions id ≡ false
@@ -245,7 +242,7 @@ module _ (f : Frame) (d : List ℕ) (max≤ : f.max_clients ≤ 255) (id< : f.se
       store_is : store_of touched_ones id ≡ l.store
       store_is = ap (λ (x : Local). x.store) (same_local touched_ones id (touched f.moment.time l) shown)
 
-      gathered_shown : local_of g id ≡ some after
+      gathered_shown : local_of g id ≡ Some after
       gathered_shown =
           gather_here SoundStream max touched_ones led_touched.sound max≤ id id< live nr total bytes
           ∙ (λ i. fragments.with_store (gathered_store (store_is i) nr total bytes) (shown i))
@@ -270,27 +267,27 @@ module _ (f : Frame) (d : List ℕ) (max≤ : f.max_clients ≤ 255) (id< : f.se
         place = refl;
       }
 
-      abbrev turned_by : ℕ → Rebuilt → Turned
+      abbrev turned_by : ℕ → Result ℕ Refusal → Turned
       turned_by k x = with_acted g (left_by x f g.held (in_bytes k) k r at (rows_of g))
 
-      refused_acts : (k : ℕ) (x : Refusal) → rebuilt_of (in_bytes k) ≡ rebuilt.Refused x → Acts f d t r.next at (done after []) (whole_turned f g k r at)
-      refused_acts k x e = subst (λ (y : Rebuilt). Acts f d t r.next at (done after []) (turned_by k y)) (sym e) nothing_acts
+      refused_acts : (k : ℕ) (x : Refusal) → rebuilt_of (in_bytes k) ≡ Err x → Acts f d t r.next at (done after []) (whole_turned f g k r at)
+      refused_acts k x e = subst (λ (y : Result ℕ Refusal). Acts f d t r.next at (done after []) (turned_by k y)) (sym e) nothing_acts
 
       -- they are worked off, under the header of that datagram
-      passed_acts : (k m : ℕ) → k ≤ 32768 → rebuilt_of (in_bytes k) ≡ rebuilt.Subs m
-          → Acts f d t r.next at (onto (brought_by fragment (some (in_bytes k))) (done after [])) (whole_turned f g k r at)
+      passed_acts : (k m : ℕ) → k ≤ 32768 → rebuilt_of (in_bytes k) ≡ Ok m
+          → Acts f d t r.next at (onto (brought_by fragment (Some (in_bytes k))) (done after [])) (whole_turned f g k r at)
       passed_acts k m few e =
           let s = in_bytes k in
           let q = rebuilt_reads s 0 m (whole_reads s m e) in
           let xs = q.0 in
-          let brings : brought_by fragment (some s) ≡ ins_at f.moment n s 0 =
+          let brings : brought_by fragment (Some s) ≡ ins_at f.moment n s 0 =
           ap (λ (ys : List Said). map (λ (x : Said). in_of f.moment n x.fields x.body) ys) (reading_passed s m xs e q.1)
           ∙ map-map (λ (x : Said). in_of f.moment n x.fields x.body) (said_in s) xs
           ∙ ap (ins_from f.moment n s) (sym q.1) in
           let w = work_square f s g max≤ id< n< (entered_ran r) (rows_of g) after xs led_gathered.sound gathered_shown refl (omega arith) q.1 q.2 in
           let a = left_acts f d g (entered_ran r) (rows_of g) after (work_at f g.held s (entered_ran r) (rows_of g)) k at few w [] in
-          subst (λ (y : Rebuilt). Acts f d t r.next at (onto (brought_by fragment (some s)) (done after [])) (turned_by k y)) (sym e)
-          (subst (λ (js : List In). Acts f d t r.next at (onto js (done after [])) (turned_by k (rebuilt.Subs m))) (sym brings)
+          subst (λ (y : Result ℕ Refusal). Acts f d t r.next at (onto (brought_by fragment (Some s)) (done after [])) (turned_by k y)) (sym e)
+          (subst (λ (js : List In). Acts f d t r.next at (onto js (done after [])) (turned_by k (Ok m))) (sym brings)
           record {
             after = a.after;
             bytes = a.bytes;
@@ -303,13 +300,13 @@ module _ (f : Frame) (d : List ℕ) (max≤ : f.max_clients ≤ 255) (id< : f.se
             place = a.place;
           })
 
-      whole_acts : (k : ℕ) → k ≤ 32768 → (x : Rebuilt) → rebuilt_of (in_bytes k) ≡ x → Acts f d t r.next at (onto (brought_by fragment (some (in_bytes k))) (done after [])) (whole_turned f g k r at)
+      whole_acts : (k : ℕ) → k ≤ 32768 → (x : Result ℕ Refusal) → rebuilt_of (in_bytes k) ≡ x → Acts f d t r.next at (onto (brought_by fragment (Some (in_bytes k))) (done after [])) (whole_turned f g k r at)
       unfolding onto
-      whole_acts k few (rebuilt.Subs m) e = passed_acts k m few e
-      whole_acts k few (rebuilt.Refused x) e =
+      whole_acts k few (Ok m) e = passed_acts k m few e
+      whole_acts k few (Err x) e =
           subst (λ (w : Working). Acts f d t r.next at w (whole_turned f g k r at)) (sym (none_brought x e)) (refused_acts k x e)
         where
-          none_brought : (x : Refusal) → rebuilt_of (in_bytes k) ≡ rebuilt.Refused x → onto (brought_by fragment (some (in_bytes k))) (done after []) ≡ done after []
+          none_brought : (x : Refusal) → rebuilt_of (in_bytes k) ≡ Err x → onto (brought_by fragment (Some (in_bytes k))) (done after []) ≡ done after []
           none_brought x e = ap (λ (ys : List Said). onto (map (λ (x : Said). in_of f.moment n x.fields x.body) ys) (done after [])) (reading_refused (in_bytes k) x e)
 
       abbrev answer : Gathered
@@ -317,16 +314,16 @@ module _ (f : Frame) (d : List ℕ) (max≤ : f.max_clients ≤ 255) (id< : f.se
 
       answered_acts : (o : Option (List ℕ)) → gathered_bytes (store_of touched_ones id) nr total bytes ≡ o → Acts f d t r.next at (onto (brought_by fragment o) (done after [])) (whole_turned f g (whole_len answer) r at)
       unfolding onto
-      answered_acts none e =
+      answered_acts None e =
           let k = whole_missing answer (gather_missing SoundStream max touched_ones led_touched.sound max≤ id id< live nr total bytes e) in
           subst (λ (k : ℕ). Acts f d t r.next at (done after []) (whole_turned f g k r at)) (sym k) (refused_acts 0 BufferTooShort (no_bytes g.rebuilt))
-      answered_acts (some whole) e =
+      answered_acts (Some whole) e =
           let w = gather_whole SoundStream max touched_ones led_touched.sound max≤ id id< live nr total bytes whole e in
           let long = led_gathered.sound.rebuilt_need_lem in
           let few = w.2 in
           let s = part_is g.rebuilt whole (omega (arith, long, few)) w.1 in
-          subst (λ (k : ℕ). Acts f d t r.next at (onto (brought_by fragment (some whole)) (done after [])) (whole_turned f g k r at)) (sym (ap whole_len w.0))
-          (subst (λ (s : List ℕ). Acts f d t r.next at (onto (brought_by fragment (some s)) (done after [])) (whole_turned f g (length whole) r at)) s
+          subst (λ (k : ℕ). Acts f d t r.next at (onto (brought_by fragment (Some whole)) (done after [])) (whole_turned f g k r at)) (sym (ap whole_len w.0))
+          (subst (λ (s : List ℕ). Acts f d t r.next at (onto (brought_by fragment (Some s)) (done after [])) (whole_turned f g (length whole) r at)) s
           (whole_acts (length whole) few (rebuilt_of (in_bytes (length whole))) refl))
 
       pub fragment_acts : Acts f d t r.next at (onto (brought p fragment l) (done (gathering p fragment l) [])) (fragment_turned f t d r taken)
@@ -337,13 +334,13 @@ module _ (f : Frame) (d : List ℕ) (max≤ : f.max_clients ≤ 255) (id< : f.se
           (answered_acts (gathered_bytes (store_of touched_ones id) nr total bytes) refl)
 
     -- a FRAGMENT of a session that is not live
-    pub fragment_quiet : is_free t.sessions id ≡ true → named_of t.sessions id ≡ NotLive → Quiet t r.next at (fragment_turned f t d r taken)
+    pub fragment_quiet : is_free t.sessions id ≡ true → named_of t.sessions id ≡ (Ok false) → Quiet t r.next at (fragment_turned f t d r taken)
     unfolding fragment_turned touched_rows
     fragment_quiet free gone =
         subst (λ (v : Tables). Quiet t r.next at (whole_turned f (gather_tables v id nr total bytes) (whole_len (gathered v.sessions v.parts v.lengths v.rebuilt id nr total bytes)) r at)) (sym same)
         (subst (λ (v : Tables). Quiet t r.next at (whole_turned f v (whole_len (gathered t.sessions t.parts t.lengths t.rebuilt id nr total bytes)) r at)) (sym still.0)
         (subst (λ (a : Gathered). Quiet t r.next at (whole_turned f t (whole_len a) r at)) (sym still.1)
-        (subst (λ (y : Rebuilt). Quiet t r.next at (with_acted t (left_by y f t.held (rebuilt_part t.rebuilt 0) 0 r at (rows_of t)))) (sym (no_bytes t.rebuilt))
+        (subst (λ (y : Result ℕ Refusal). Quiet t r.next at (with_acted t (left_by y f t.held (rebuilt_part t.rebuilt 0) 0 r at (rows_of t)))) (sym (no_bytes t.rebuilt))
         record { tables = refl; replies = refl; stop = idle; pointer = refl; place = refl })))
       where
         still : (gather_tables t id nr total bytes ≡ t) × (gathered t.sessions t.parts t.lengths t.rebuilt id nr total bytes ≡ gathered.Nothing)

@@ -2,7 +2,6 @@
 use Prim.Native.Nat.{ℕ, ◌<◌, ◌≤◌}
 use mathlib.Core.Path.{◌≡◌, refl, sym, ap, ◌∙◌}
 use mathlib.Core.Bool.{Bool, false}
-use mathlib.Core.Option.{some}
 use mathlib.Core.List.{List, []}
 use Rattle.codec.specs.Reading.{part_of}
 use Rattle.codec.specs.declared.layouts.Span.{Span}
@@ -34,14 +33,16 @@ use Rattle.agent.proofs.Square.{led_on, shown_at, handled_in, Meets, Squares, sh
 use Rattle.agent.proofs.SquareObjects.{create_square, delete_square, write_square}
 use Rattle.agent.proofs.SquareReads.{reads_led, read_square}
 use Rattle.agent.proofs.SquareStreams.{opens_led, acks_led, heartbeat_square, acknack_square}
+use Rattle.std.specs.Prelude.{Err, Ok, Result, Some}
+use Rattle.codec.specs.declared.refusals.Refusal.{Refusal}
 
 module _ {most : ℕ} (t : Tables) (sound : SoundTables SoundStream most t) (few : most ≤ 255) (id : ℕ) (id< : id < 256) where
   abbrev stays_led : LeadsTo SoundStream most t t
   stays_led = same_led SoundStream stream_lasts most t sound
 
-  create_led : (p : CreatePayload) (r : Room)
+  create_led : (p : CreatePayload) (r : Result Room Refusal)
       → LeadsTo SoundStream most t (with_rows t (rows (room_sessions r t.sessions t.objects id p.object_id p.kind p.parent_id) t.streams (room_objects r t.sessions t.objects id p.object_id p.kind p.parent_id)))
-  create_led p room.Free = by p.kind
+  create_led p (Ok room.Free) = by p.kind
     where
       by : (k : ObjectKind)
           → LeadsTo SoundStream most t (with_rows t (rows (created_sessions k t.sessions t.objects id p.object_id p.parent_id) t.streams (created_objects k t.sessions t.objects id p.object_id p.parent_id)))
@@ -51,10 +52,10 @@ module _ {most : ℕ} (t : Tables) (sound : SoundTables SoundStream most t) (few
       by Subscriber = put_led SoundStream stream_lasts most t sound id id< (implicit_of p.object_id 4 p.parent_id)
       by DataWriter = stays_led
       by DataReader = stays_led
-  create_led p room.Full = stays_led
-  create_led p room.Depended = stays_led
-  create_led p room.NotLive = stays_led
-  create_led p (room.Refused x) = stays_led
+  create_led p (Ok room.Full) = stays_led
+  create_led p (Ok room.Depended) = stays_led
+  create_led p (Ok room.NotLive) = stays_led
+  create_led p (Err x) = stays_led
 
   module _ (live : is_free t.sessions id ≡ false) (n : ℕ) (n< : n < 256) where
     pub handled_led : (m : Submessage) → LeadsTo SoundStream most t (handled_in m t id n)
@@ -101,14 +102,14 @@ module _ {most : ℕ} (t : Tables) (sound : SoundTables SoundStream most t) (few
   pub touches_led : LeadsTo SoundStream most t u
   touches_led = touch_led SoundStream stream_lasts most t sound id time id<
 
-  module _ (l : Local) (is : local_of t id ≡ some l) where
-    pub touch_shown : local_of u id ≡ some (touched time l)
+  module _ (l : Local) (is : local_of t id ≡ Some l) where
+    pub touch_shown : local_of u id ≡ Some (touched time l)
     touch_shown = touch_here t id sound.sessions_need_lem id< time ∙ ap (touched_local t id sound.sessions_need_lem id< time) is
 
     pub touch_live : is_free u.sessions id ≡ false
     touch_live = live_shown u id (touched time l) touch_shown
 
-  module _ (l : Local) (is : local_of t id ≡ some l) (n : ℕ) (n< : n < 256) (m : Submessage) where
+  module _ (l : Local) (is : local_of t id ≡ Some l) (n : ℕ) (n< : n < 256) (m : Submessage) where
     pub turn_led : LeadsTo SoundStream most t (handled_in m u id n)
     turn_led = led_on touches_led (handled_led u touches_led.sound few id id< (touch_live l is) n n< m)
 

@@ -3,7 +3,6 @@ use Prim.Native.Nat.{ℕ, ◌+◌, ◌<◌, ◌≤◌}
 use mathlib.Core.Path.{◌≡◌, refl, sym, ap, ◌∙◌}
 use mathlib.Core.Logic.{◌≢◌}
 use mathlib.Core.Bool.{Bool, true, false, cond}
-use mathlib.Core.Option.{Option, none, some}
 use mathlib.Core.List.{List}
 use native.Mathlib.Omega.{arith}
 use borrow.Author.Tests.{eqb-false, ltb-true, ltb-false, lt-ltb, le-ltb}
@@ -11,13 +10,10 @@ use lib.Dec.{eqb, ltb}
 use lib.ListN.{length}
 use Rattle.codec.specs.declared.refusals.Refusal.TheVariants.{StoreFull}
 use Rattle.isolation.specs.Rules.{Sub}
-use Rattle.streams.specs.declared.sent.Slot.{Slot}
-use Rattle.streams.specs.declared.sent.Slot.TheVariants as slot
 use Rattle.sessions.specs.Table.{is_free}
 use Rattle.sessions.specs.Sending.{data_slot_at, data_slot}
 use Rattle.sessions.specs.View.{Tables, KeptStream, local_of, stream_in}
 use Rattle.sessions.specs.Calls.{SoundTables, SoundStream}
-use Rattle.sessions.specs.declared.table.Named.TheVariants as named
 use Rattle.sessions.proofs.SoundStreams.{stream_lasts}
 use Rattle.sessions.proofs.Steps.{streams_named_lem}
 use Rattle.sessions.proofs.ViewSending.{slot_placed, slot_full, slot_none}
@@ -30,51 +26,52 @@ use Rattle.agent.specs.Brings.{Opening, In}
 use Rattle.agent.specs.Step.{crowded, crowded_in, over_held}
 use Rattle.agent.specs.Judge.{answer_slot, placed_judged}
 use Rattle.agent.specs.Whole.{session_in}
-use Rattle.agent.specs.declared.judge.Judged.{Judged}
-use Rattle.agent.specs.declared.judge.Judged.TheVariants as judged
 use Rattle.agent.specs.declared.state.Pending.{Pending}
 use Rattle.agent.proofs.MoveBytes.{data_long}
 use Rattle.agent.proofs.Square.{shown_at, shown_live}
 use Rattle.agent.proofs.SquareOpen.{view_of, at_in}
+use Rattle.std.specs.Prelude.{Err, None, Ok, Result, Option, Some}
+use Rattle.codec.specs.declared.refusals.Refusal.{Refusal}
+use Rattle.agent.specs.declared.judge.Start.{Start}
 
-module _ (most : ℕ) (t : Tables) (sound : SoundTables SoundStream most t) (few : most ≤ 255) (p : Pending) (id< : p.session_id < 256) (sample : List ℕ) (j : Judged) where
+module _ (most : ℕ) (t : Tables) (sound : SoundTables SoundStream most t) (few : most ≤ 255) (p : Pending) (id< : p.session_id < 256) (sample : List ℕ) (j : Result (Start × ℕ) Refusal) where
   abbrev id : ℕ
   id = p.session_id
 
   abbrev n : ℕ
   n = p.stream_id
 
-  abbrev refused_if : Bool → Judged
-  refused_if b = cond b (judged.Refused StoreFull) j
+  abbrev refused_if : Bool → Result (Start × ℕ) Refusal
+  refused_if b = cond b (Err StoreFull) j
 
   -- a message that is not too long, on another stream than 0
   module _ (other : n ≢ 0) (len : ℕ) (short : len ≤ 1024) where
-    abbrev place : Slot
+    abbrev place : Result (Option ℕ) Refusal
     place = data_slot t.sessions t.streams (length t.held) id n len
 
     module _ (live : is_free t.sessions id ≡ false) where
       in_stream : (x : Option KeptStream) → stream_in (shown_at t id).streams n ≡ x → placed_judged place j ≡ refused_if (crowded x)
-      in_stream none e = ap (λ (a : Slot). placed_judged a j) (slot_none most t sound few id id< live n len e)
-      in_stream (some k) e = by (crowded (some k)) refl
+      in_stream None e = ap (λ (a : Result (Option ℕ) Refusal). placed_judged a j) (slot_none most t sound few id id< live n len e)
+      in_stream (Some k) e = by (crowded (Some k)) refl
         where
-          by : (b : Bool) → crowded (some k) ≡ b → placed_judged place j ≡ refused_if b
-          by true c = ap (λ (a : Slot). placed_judged a j) (slot_full most t sound few id id< live n len k other e short c)
-          by false c = ap (λ (a : Slot). placed_judged a j) (slot_placed most t sound few id id< live n len k other e short c).1
+          by : (b : Bool) → crowded (Some k) ≡ b → placed_judged place j ≡ refused_if b
+          by true c = ap (λ (a : Result (Option ℕ) Refusal). placed_judged a j) (slot_full most t sound few id id< live n len k other e short c)
+          by false c = ap (λ (a : Result (Option ℕ) Refusal). placed_judged a j) (slot_placed most t sound few id id< live n len k other e short c).1
 
     -- "No such session"
-    gone_place : is_free t.sessions id ≡ true → place ≡ slot.Nowhere
+    gone_place : is_free t.sessions id ≡ true → place ≡ (Ok None)
     unfolding data_slot
     gone_place e =
         ap (λ q. data_slot_at q t.sessions t.streams (length t.held) id len)
-        (no_place t id (streams_named_lem SoundStream stream_lasts most t sound id id< ∙ ap (λ (b : Bool). cond b named.NotLive named.Live) e) n)
+        (no_place t id (streams_named_lem SoundStream stream_lasts most t sound id id< ∙ ap (λ (b : Bool). cond b (Ok false) (Ok true)) e) n)
 
     in_session_lem : placed_judged place j ≡ refused_if (crowded_in n (session_in t id))
     in_session_lem = by (is_free t.sessions id) refl
       where
         by : (b : Bool) → is_free t.sessions id ≡ b → placed_judged place j ≡ refused_if (crowded_in n (session_in t id))
         by true e =
-            let z : local_of t id ≡ none = rw e refl in
-            ap (λ (a : Slot). placed_judged a j) (gone_place e) ∙ sym (ap (λ x. refused_if (crowded_in n x)) (at_in t id id< ∙ z))
+            let z : local_of t id ≡ None = rw e refl in
+            ap (λ (a : Result (Option ℕ) Refusal). placed_judged a j) (gone_place e) ∙ sym (ap (λ x. refused_if (crowded_in n x)) (at_in t id id< ∙ z))
         by false e = in_stream e (stream_in (shown_at t id).streams n) refl ∙ sym (ap (λ x. refused_if (crowded_in n x)) (at_in t id id< ∙ shown_live t id e))
 
   -- ten bytes of headers and number are counted
@@ -92,7 +89,7 @@ module _ (most : ℕ) (t : Tables) (sound : SoundTables SoundStream most t) (few
       ∙ sym (ap (λ (b : Bool). refused_if (cond (eqb n 0) false (cond b true (crowded_in n (session_in t id))))) long_same)
     where
       by : (b : Bool) → eqb n 0 ≡ b → (c : Bool) → ltb 1014 (length sample) ≡ c
-          → placed_judged (cond b slot.Nowhere (cond c (slot.Refused StoreFull) (data_slot t.sessions t.streams (length t.held) id n (10 + length sample)))) j
+          → placed_judged (cond b (Ok None) (cond c (Err StoreFull) (data_slot t.sessions t.streams (length t.held) id n (10 + length sample)))) j
           ≡ refused_if (cond b false (cond c true (crowded_in n (session_in t id))))
       by true e c q = refl
       by false e true q = refl

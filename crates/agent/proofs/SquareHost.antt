@@ -2,7 +2,6 @@
 use Prim.Native.Nat.{ℕ, zero, suc, ◌+◌, ◌<◌, ◌≤◌}
 use mathlib.Core.Path.{◌≡◌, refl, sym, ap, ◌∙◌}
 use mathlib.Core.Bool.{Bool, true, false, cond}
-use mathlib.Core.Option.{Option, none, some}
 use native.Mathlib.Omega.{arith}
 use borrow.Author.Tests.{ltb-true}
 use lib.Dec.{ltb}
@@ -10,37 +9,37 @@ use Rattle.sessions.specs.Table.{is_free, ended_rows}
 use Rattle.sessions.specs.Sweep.{goes, expired_from, expired_ids, swept_rows}
 use Rattle.sessions.specs.View.{Tables, Local, table_part, local_shown, local_of, lapsed}
 use Rattle.sessions.specs.Calls.{SoundStream, SoundTables, with_sessions, set_up_tables}
-use Rattle.sessions.specs.declared.setup.SetUp.TheVariants.{Ready}
 use Rattle.sessions.specs.declared.table.ClientSession.{ClientSession}
 use Rattle.sessions.proofs.Empty.{none_live}
 use Rattle.sessions.proofs.ViewTable.{with_session, remove_here, remove_elsewhere, swept_outside, goes_view, sweep_view}
 use Rattle.agent.specs.Step.{with_id, stays, lapsed_ids, empty_agent}
 use Rattle.agent.specs.Whole.{session_in}
 use Rattle.agent.proofs.SquareOpen.{view_of, at_in, with_view}
+use Rattle.std.specs.Prelude.{Ok, Option, None, Some}
 
-free_none : (t : Tables) (id : ℕ) → is_free t.sessions id ≡ true → local_of t id ≡ none
+free_none : (t : Tables) (id : ℕ) → is_free t.sessions id ≡ true → local_of t id ≡ None
 free_none t id e = rw e refl
 
 -- ---- set-up
 
-pub empty_view : (t : Tables) (max timeout : ℕ) (is_open : ℕ → ℕ → Bool) (next : ℕ) → next ≡ 1 → view_of next (set_up_tables (Ready next) t) ≡ (empty_agent max timeout is_open).tables
+pub empty_view : (t : Tables) (max timeout : ℕ) (is_open : ℕ → ℕ → Bool) (next : ℕ) → next ≡ 1 → view_of next (set_up_tables (Ok next) t) ≡ (empty_agent max timeout is_open).tables
 empty_view t max timeout is_open next e = λ i. record { next = e i; at = λ id. at_none id i }
   where
-    at_none : (id : ℕ) → session_in (set_up_tables (Ready next) t) id ≡ none
+    at_none : (id : ℕ) → session_in (set_up_tables (Ok next) t) id ≡ None
     at_none id = by (ltb id 256) refl
       where
-        by : (b : Bool) → ltb id 256 ≡ b → cond b (local_of (set_up_tables (Ready next) t) id) none ≡ none
-        by true q = free_none (set_up_tables (Ready next) t) id (none_live t.sessions id (ltb-true id 256 q))
+        by : (b : Bool) → ltb id 256 ≡ b → cond b (local_of (set_up_tables (Ok next) t) id) None ≡ None
+        by true q = free_none (set_up_tables (Ok next) t) id (none_live t.sessions id (ltb-true id 256 q))
         by false q = refl
 
 module _ {most : ℕ} (t : Tables) (sound : SoundTables SoundStream most t) where
   -- ---- a removal
 
-  pub remove_view : (next id : ℕ) → id < 256 → view_of next (with_sessions t (ended_rows t.sessions id)) ≡ record { next = next; at = with_id id none (session_in t) }
+  pub remove_view : (next id : ℕ) → id < 256 → view_of next (with_sessions t (ended_rows t.sessions id)) ≡ record { next = next; at = with_id id None (session_in t) }
   remove_view next id h =
       λ i. record {
         next = next;
-        at = sym (with_view t (with_sessions t (ended_rows t.sessions id)) id h none (remove_here t id sound.sessions_need_lem h) (λ j l q. remove_elsewhere t id sound.sessions_need_lem h j q)) i;
+        at = sym (with_view t (with_sessions t (ended_rows t.sessions id)) id h None (remove_here t id sound.sessions_need_lem h) (λ j l q. remove_elsewhere t id sound.sessions_need_lem h j q)) i;
       }
 
   -- ---- a sweep
@@ -49,9 +48,9 @@ module _ {most : ℕ} (t : Tables) (sound : SoundTables SoundStream most t) wher
     abbrev swept : Tables
     swept = with_sessions t (swept_rows t.sessions time timeout)
 
-    stays_as : (x : Option Local) → cond (lapsed time timeout x) none x ≡ stays timeout time x
-    stays_as none = refl
-    stays_as (some l) = refl
+    stays_as : (x : Option Local) → cond (lapsed time timeout x) None x ≡ stays timeout time x
+    stays_as None = refl
+    stays_as (Some l) = refl
 
     -- id 0 is not live, and is not swept
     zero_stays : local_of swept 0 ≡ local_of t 0
@@ -68,7 +67,7 @@ module _ {most : ℕ} (t : Tables) (sound : SoundTables SoundStream most t) wher
         at_swept : (j : ℕ) → session_in swept j ≡ stays timeout time (session_in t j)
         at_swept j = by (ltb j 256) refl
           where
-            by : (b : Bool) → ltb j 256 ≡ b → cond b (local_of swept j) none ≡ stays timeout time (cond b (local_of t j) none)
+            by : (b : Bool) → ltb j 256 ≡ b → cond b (local_of swept j) None ≡ stays timeout time (cond b (local_of t j) None)
             by true e = swept_local j (ltb-true j 256 e)
             by false e = refl
 

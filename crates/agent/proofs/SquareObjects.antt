@@ -2,7 +2,6 @@
 use Prim.Native.Nat.{ℕ, ◌<◌, ◌≤◌}
 use mathlib.Core.Path.{◌≡◌, refl, sym, ap, ◌∙◌, subst}
 use mathlib.Core.Bool.{Bool, true, false, cond}
-use mathlib.Core.Option.{Option, none, some}
 use mathlib.Core.List.{List}
 use native.Mathlib.Omega.{arith}
 use borrow.Author.Tests.{lt-leb, le-leb, leb-false, ltb-true, ltb-false}
@@ -17,7 +16,8 @@ use Rattle.codec.specs.declared.submessages.ObjectKind.TheVariants.{Participant,
 use Rattle.codec.specs.declared.submessages.ObjectNumber.{ObjectNumber}
 use Rattle.codec.specs.declared.submessages.DeletePayload.{DeletePayload}
 use Rattle.codec.specs.declared.submessages.WriteDataPayload.{WriteDataPayload}
-use Rattle.codec.specs.declared.submessages.StatusCode.TheVariants.{Ok, ErrUnknownRef, ErrInvalidData, ErrIncompatible, ErrResources}
+use Rattle.codec.specs.declared.submessages.StatusCode.TheVariants as status
+use Rattle.codec.specs.declared.submessages.StatusCode.TheVariants.{ErrUnknownRef, ErrInvalidData, ErrIncompatible, ErrResources}
 use Rattle.codec.specs.declared.submessages.Submessage.TheVariants as sub
 use Rattle.sessions.specs.Table.{is_free, session_at}
 use Rattle.sessions.specs.Objects.{blank, handle_of, implicit_of, object_place, found_of, slot_of}
@@ -27,19 +27,12 @@ use Rattle.sessions.specs.Removal.{remove_in, depended_in, taken_of, taken_objec
 use Rattle.sessions.specs.Room.{room_for, room_of}
 use Rattle.sessions.specs.View.{Tables, Entry, Local, entry_of, blank_entry, place_in, held_at, find_in, put_in, drop_at}
 use Rattle.sessions.specs.Calls.{SoundStream, SoundTables, put_tables, drop_tables}
-use Rattle.sessions.specs.declared.objects.Found.{Found}
-use Rattle.sessions.specs.declared.objects.Found.TheVariants as found
 use Rattle.sessions.specs.declared.objects.Handle.{Handle}
 use Rattle.sessions.specs.declared.objects.Object.{Object}
-use Rattle.sessions.specs.declared.objects.ObjectHandle.{ObjectHandle}
-use Rattle.sessions.specs.declared.objects.ObjectHandle.TheVariants.{Bridged, Implicit}
 use Rattle.sessions.specs.declared.objects.Taken.{Taken}
 use Rattle.sessions.specs.declared.objects.Taken.TheVariants as taken
-use Rattle.sessions.specs.declared.objects.Place.{Place}
-use Rattle.sessions.specs.declared.objects.Place.TheVariants.{At, Nowhere}
 use Rattle.sessions.specs.declared.room.Room.{Room}
 use Rattle.sessions.specs.declared.room.Room.TheVariants as room
-use Rattle.sessions.specs.declared.table.Named.TheVariants.{Live}
 use Rattle.sessions.proofs.ObjectSearch.{Under, place_under}
 use Rattle.sessions.proofs.ViewObjects.{entry_found, listed_length, listed_at, place_shown}
 use Rattle.sessions.proofs.ViewStores as stores
@@ -49,8 +42,6 @@ use Rattle.moves.specs.Calls.{Call, create_writer, create_reader, write_data, de
 use Rattle.agent.specs.Local.{with_objects, no_place, full, listing, dropping, entry_handle, handle_at}
 use Rattle.agent.specs.Parents.{of_kind, both_handles, handles_above, handles_named}
 use Rattle.moves.specs.Names.{names_in}
-use Rattle.moves.specs.declared.names.Names as read
-use Rattle.moves.specs.declared.names.Names.TheVariants as names
 use Rattle.moves.specs.Moves.{found_handle, handle_of_kind, parent_of, topic_by, endpoint_call, endpoint_for, write_by, write_move, dropped_move, delete_move}
 use Rattle.moves.specs.Proxy.{call_as}
 use Rattle.moves.specs.Rows.{endpoint_in, create_move, created_sessions, created_objects, room_move, room_sessions, room_objects}
@@ -59,45 +50,47 @@ use Rattle.moves.specs.declared.moves.Move as code
 use Rattle.moves.specs.declared.moves.Move.TheVariants.{Status}
 use Rattle.agent.proofs.NameParts.{bytes_of, names_same}
 use Rattle.agent.proofs.Square.{outcome, shown_at, Meets, Squares, shown_live, reach_objects}
+use Rattle.std.specs.Prelude.{Err, None, Ok, Result, Some, Option}
+use Rattle.codec.specs.declared.refusals.Refusal.{Refusal}
 
 -- ---- handles
 
 -- a handle as the rules have it
-abbrev pub handle_shown : ObjectHandle → Option ℕ
-handle_shown (Bridged h) = some h.0
-handle_shown Implicit = none
+abbrev pub handle_shown : Option Handle → Option ℕ
+handle_shown (Some h) = Some h.0
+handle_shown None = None
 
 own_shown : (o : Object) → handle_shown (handle_of o) ≡ (entry_of o).handle
 own_shown o = by (eqb o.bridged 0)
   where
-    by : (b : Bool) → handle_shown (cond b Implicit (Bridged (record { 0 = o.handle }))) ≡ cond b none (some o.handle)
+    by : (b : Bool) → handle_shown (cond b None (Some (record { 0 = o.handle }))) ≡ cond b None (Some o.handle)
     by true = refl
     by false = refl
 
-handle_shown_lem : (f : Found) → handle_shown (found_handle f) ≡ entry_handle (entry_found f)
-handle_shown_lem (found.Held o) = own_shown o
-handle_shown_lem found.Nothing = refl
-handle_shown_lem (found.Refused r) = refl
+handle_shown_lem : (f : Result (Option Object) Refusal) → handle_shown (found_handle f) ≡ entry_handle (entry_found f)
+handle_shown_lem (Ok (Some o)) = own_shown o
+handle_shown_lem (Ok None) = refl
+handle_shown_lem (Err r) = refl
 
 -- the same of an object held with its kind
-kind_shown : (kind : ObjectKind) (f : Found) → handle_shown (handle_of_kind f (kind_byte kind)) ≡ entry_handle (of_kind kind (entry_found f))
-kind_shown kind (found.Held o) = by (eqb o.kind (kind_byte kind))
+kind_shown : (kind : ObjectKind) (f : Result (Option Object) Refusal) → handle_shown (handle_of_kind f (kind_byte kind)) ≡ entry_handle (of_kind kind (entry_found f))
+kind_shown kind (Ok (Some o)) = by (eqb o.kind (kind_byte kind))
   where
-    by : (b : Bool) → handle_shown (cond b (handle_of o) Implicit) ≡ entry_handle (cond b (some (entry_of o)) none)
+    by : (b : Bool) → handle_shown (cond b (handle_of o) None) ≡ entry_handle (cond b (Some (entry_of o)) None)
     by true = own_shown o
     by false = refl
-kind_shown kind found.Nothing = refl
-kind_shown kind (found.Refused r) = refl
+kind_shown kind (Ok None) = refl
+kind_shown kind (Err r) = refl
 
-both_none : (x : Option ℕ) → both_handles x none ≡ none
-both_none none = refl
-both_none (some p) = refl
+both_none : (x : Option ℕ) → both_handles x None ≡ None
+both_none None = refl
+both_none (Some p) = refl
 
 module _ {most : ℕ} (t : Tables) (sound : SoundTables SoundStream most t) (id : ℕ) (id< : id < 256) (live : is_free t.sessions id ≡ false) (d : List ℕ) (n : ℕ) (body : Span) where
   abbrev l : Local
   l = shown_at t id
 
-  abbrev found_at : ObjectNumber → Found
+  abbrev found_at : ObjectNumber → Result (Option Object) Refusal
   found_at number = found_object t.sessions t.objects id number
 
   pub handle_view : (number : ObjectNumber) → handle_at number.0 l ≡ handle_shown (found_handle (found_at number))
@@ -116,14 +109,14 @@ module _ {most : ℕ} (t : Tables) (sound : SoundTables SoundStream most t) (id 
       above number = ap (λ (x : Option Entry). entry_handle (of_kind Participant x)) (found_view number) ∙ sym (kind_shown Participant (found_at number))
 
       topic : (o : Object) (b : Bool)
-          → handles_above l.objects (cond b (some (entry_of o)) none) ≡ both_handles (handle_shown (handle_of_kind (found_at (record { 0 = o.parent })) 1)) (handle_shown (cond b (handle_of o) Implicit))
+          → handles_above l.objects (cond b (Some (entry_of o)) None) ≡ both_handles (handle_shown (handle_of_kind (found_at (record { 0 = o.parent })) 1)) (handle_shown (cond b (handle_of o) None))
       topic o true = λ i. both_handles (above (record { 0 = o.parent }) i) (sym (own_shown o) i)
       topic o false = sym (both_none (handle_shown (handle_of_kind (found_at (record { 0 = o.parent })) 1)))
 
-      by : (f : Found) → handles_above l.objects (of_kind Topic (entry_found f)) ≡ both_handles (handle_shown (handle_of_kind (found_at (parent_of f)) 1)) (handle_shown (handle_of_kind f 2))
-      by (found.Held o) = topic o (eqb o.kind 2)
-      by found.Nothing = sym (both_none (handle_shown (handle_of_kind (found_at (record { 0 = 0 })) 1)))
-      by (found.Refused r) = sym (both_none (handle_shown (handle_of_kind (found_at (record { 0 = 0 })) 1)))
+      by : (f : Result (Option Object) Refusal) → handles_above l.objects (of_kind Topic (entry_found f)) ≡ both_handles (handle_shown (handle_of_kind (found_at (parent_of f)) 1)) (handle_shown (handle_of_kind f 2))
+      by (Ok (Some o)) = topic o (eqb o.kind 2)
+      by (Ok None) = sym (both_none (handle_shown (handle_of_kind (found_at (record { 0 = 0 })) 1)))
+      by (Err r) = sym (both_none (handle_shown (handle_of_kind (found_at (record { 0 = 0 })) 1)))
 
   -- where the tables stay
   stays : (rule : Move) (m : code.Move) → rule ≡ outcome d t id n l m → Meets t d id n rule t m
@@ -136,10 +129,10 @@ module _ {most : ℕ} (t : Tables) (sound : SoundTables SoundStream most t) (id 
   writes is_open number h =
       if_handle h (λ w. cond is_open (asks n number.0 writing (write_data w (part_of d body)) l) (says n number.0 ErrIncompatible l)) (says n number.0 ErrUnknownRef l)
 
-  write_moves : (is_open : Bool) (number : ObjectNumber) (h : ObjectHandle) → writes is_open number (handle_shown h) ≡ outcome d t id n l (write_by is_open number body h)
-  write_moves true number (Bridged w) = refl
-  write_moves false number (Bridged w) = refl
-  write_moves is_open number Implicit = refl
+  write_moves : (is_open : Bool) (number : ObjectNumber) (h : Option Handle) → writes is_open number (handle_shown h) ≡ outcome d t id n l (write_by is_open number body h)
+  write_moves true number (Some w) = refl
+  write_moves false number (Some w) = refl
+  write_moves is_open number None = refl
 
   pub write_square : (is_open : Bool) (p : WriteDataPayload) → Squares is_open (sub.WriteData p) t d id n body
   write_square is_open p =
@@ -174,42 +167,42 @@ module _ {most : ℕ} (t : Tables) (sound : SoundTables SoundStream most t) (id 
   abbrev removing : ℕ → Local
   removing number = with_objects l (remove_in l.objects number)
 
-  delete_at_lem : (number : ObjectNumber) (p : Place) → place_in l.objects number.0 ≡ p → Under used p
+  delete_at_lem : (number : ObjectNumber) (p : Option ℕ) → place_in l.objects number.0 ≡ p → Under used p
       → delete_found n number.0 (held_at l.objects p) l
       ≡ outcome d (gone number) id n (with_objects l (cond (has_dependant l.objects (held_at l.objects p)) l.objects (drop_at l.objects p))) (delete_move number (taken_of row used p))
-  delete_at_lem number (At k) q h =
-      ap (λ (e : Entry). delete_found n number.0 (some e) l) (entry_at k h)
+  delete_at_lem number (Some k) q h =
+      ap (λ (e : Entry). delete_found n number.0 (Some e) l) (entry_at k h)
       ∙ by (depended_in row used x)
-      ∙ ap (λ (e : Entry). outcome d (gone number) id n (with_objects l (cond (dependant_in l.objects e) l.objects (drop_at l.objects (At k)))) (delete_move number (taken_of row used (At k)))) (sym (entry_at k h))
+      ∙ ap (λ (e : Entry). outcome d (gone number) id n (with_objects l (cond (dependant_in l.objects e) l.objects (drop_at l.objects (Some k)))) (delete_move number (taken_of row used (Some k)))) (sym (entry_at k h))
     where
       x : Object
       x = get_or row k blank
 
       left : Local
-      left = with_objects l (drop_at l.objects (At k))
+      left = with_objects l (drop_at l.objects (Some k))
 
       dropped : dropping number.0 l ≡ left
-      dropped = ap (λ (p : Place). with_objects l (drop_at l.objects p)) q
+      dropped = ap (λ (p : Option ℕ). with_objects l (drop_at l.objects p)) q
 
-      has : (h : ObjectHandle) → if_handle (handle_shown h) (λ x. asks n number.0 deleting (delete_entity x) left) (says n number.0 Ok left) ≡ outcome d (gone number) id n left (dropped_move number h)
-      has (Bridged h) = refl
-      has Implicit = refl
+      has : (h : Option Handle) → if_handle (handle_shown h) (λ x. asks n number.0 deleting (delete_entity x) left) (says n number.0 status.Ok left) ≡ outcome d (gone number) id n left (dropped_move number h)
+      has (Some h) = refl
+      has None = refl
 
       by : (b : Bool)
           → cond b (says n number.0 ErrIncompatible l) (drops n number.0 (entry_of x).handle l)
-          ≡ outcome d (gone number) id n (with_objects l (cond b l.objects (drop_at l.objects (At k)))) (delete_move number (cond b taken.Depended (taken.Gone x)))
+          ≡ outcome d (gone number) id n (with_objects l (cond b l.objects (drop_at l.objects (Some k)))) (delete_move number (cond b (Ok taken.Depended) (Ok (taken.Gone x))))
       by true = refl
       by false =
-          ap (λ (m : Local). if_handle (entry_of x).handle (λ h. asks n number.0 deleting (delete_entity h) m) (says n number.0 Ok m)) dropped
-          ∙ ap (λ (h : Option ℕ). if_handle h (λ h. asks n number.0 deleting (delete_entity h) left) (says n number.0 Ok left)) (sym (own_shown x))
+          ap (λ (m : Local). if_handle (entry_of x).handle (λ h. asks n number.0 deleting (delete_entity h) m) (says n number.0 status.Ok m)) dropped
+          ∙ ap (λ (h : Option ℕ). if_handle h (λ h. asks n number.0 deleting (delete_entity h) left) (says n number.0 status.Ok left)) (sym (own_shown x))
           ∙ has (handle_of x)
-  delete_at_lem number Nowhere q h = refl
+  delete_at_lem number None q h = refl
 
   delete_moves : (number : ObjectNumber) → on_delete n number.0 l ≡ outcome d (gone number) id n (removing number.0) (delete_move number (taken_object t.sessions t.objects id number))
   delete_moves number =
       delete_at_lem number (place_in l.objects number.0) refl (subst (Under used) (place_view number) (place_under row number used))
-      ∙ ap (λ (p : Place). outcome d (gone number) id n (removing number.0) (delete_move number (taken_of row used p))) (sym (place_view number))
-      ∙ ap (λ (x : Taken). outcome d (gone number) id n (removing number.0) (delete_move number x)) (taken_is t.sessions t.objects id number Live (reach_objects t sound id id< live))
+      ∙ ap (λ (p : Option ℕ). outcome d (gone number) id n (removing number.0) (delete_move number (taken_of row used p))) (sym (place_view number))
+      ∙ ap (λ (x : Result Taken Refusal). outcome d (gone number) id n (removing number.0) (delete_move number x)) (taken_is t.sessions t.objects id number (Ok true) (reach_objects t sound id id< live))
 
   pub delete_square : (is_open : Bool) (p : DeletePayload) → Squares is_open (sub.Delete p) t d id n body
   delete_square is_open p =
@@ -225,61 +218,61 @@ module _ {most : ℕ} (t : Tables) (sound : SoundTables SoundStream most t) (id 
   -- ---- CREATE
 
   -- where there is room: not past the count, and no dependant of the object that has the number
-  abbrev room_by : Bool → Bool → Room
-  room_by past depended = cond past room.Full (cond depended room.Depended room.Free)
+  abbrev room_by : Bool → Bool → Result Room Refusal
+  room_by past depended = cond past (Ok room.Full) (cond depended (Ok room.Depended) (Ok room.Free))
 
   room_view : (number : ObjectNumber) → room_of t.sessions t.objects id number ≡ room_by (full number.0 l) (has_dependant l.objects (find_in l.objects number.0))
   unfolding room_of
   room_view number =
-      ap (λ (f : Found). room_for f (depended_found t.sessions t.objects id f) (session_at t.sessions id)) (sym (found_is t.sessions t.objects id number Live (reach_objects t sound id id< live)))
+      ap (λ (f : Result (Option Object) Refusal). room_for f (depended_found t.sessions t.objects id f) (session_at t.sessions id)) (sym (found_is t.sessions t.objects id number (Ok true) (reach_objects t sound id id< live)))
       ∙ by (object_place row used number) (place_under row number used)
-      ∙ ap (λ (p : Place). room_by (no_place (held_at l.objects p) l.objects) (has_dependant l.objects (held_at l.objects p))) (place_view number)
+      ∙ ap (λ (p : Option ℕ). room_by (no_place (held_at l.objects p) l.objects) (has_dependant l.objects (held_at l.objects p))) (place_view number)
     where
-      count : (b : Bool) → ltb used 32 ≡ b → cond b room.Free room.Full ≡ cond (leb 32 (length l.objects)) room.Full room.Free
+      count : (b : Bool) → ltb used 32 ≡ b → ◌≡◌ {A = Result Room Refusal} (cond b (Ok room.Free) (Ok room.Full)) (cond (leb 32 (length l.objects)) (Ok room.Full) (Ok room.Free))
       count true e = rw (lt-leb 32 (length l.objects) (rw count_shown (ltb-true used 32 e))) refl
       count false e = rw (le-leb 32 (length l.objects) (rw count_shown (ltb-false used 32 e))) refl
 
-      by : (p : Place) → Under used p
+      by : (p : Option ℕ) → Under used p
           → room_for (found_of row p) (depended_found t.sessions t.objects id (found_of row p)) (session_at t.sessions id)
           ≡ room_by (no_place (held_at l.objects p) l.objects) (has_dependant l.objects (held_at l.objects p))
-      by (At i) h =
-          ap (λ (b : Bool). cond b room.Depended room.Free)
-          (sym (depended_is t.sessions t.objects id (get_or row i blank) Live (reach_objects t sound id id< live)) ∙ ap (λ (e : Entry). dependant_in l.objects e) (sym (entry_at i h)))
-      by Nowhere h = ap (λ (b : Bool). cond b room.NotLive (cond (ltb used 32) room.Free room.Full)) live ∙ count (ltb used 32) refl
+      by (Some i) h =
+          ap (λ (b : Bool). cond b (Ok room.Depended) (Ok room.Free))
+          (sym (depended_is t.sessions t.objects id (get_or row i blank) (Ok true) (reach_objects t sound id id< live)) ∙ ap (λ (e : Entry). dependant_in l.objects e) (sym (entry_at i h)))
+      by None h = ap (λ (b : Bool). cond b (Ok room.NotLive) (cond (ltb used 32) (Ok room.Free) (Ok room.Full))) live ∙ count (ltb used 32) refl
 
   -- where there is room, the object has a place in the row
   pub slot_in : (number : ObjectNumber) → full number.0 l ≡ false → slot_of (object_place row used number) used < 32
   slot_in number e =
-      by (object_place row used number) (place_under row number used) (ap (λ (p : Place). no_place (held_at l.objects p) l.objects) (place_view number) ∙ e)
+      by (object_place row used number) (place_under row number used) (ap (λ (p : Option ℕ). no_place (held_at l.objects p) l.objects) (place_view number) ∙ e)
     where
       few : used ≤ 32
       few = (sound.each id id<).few_objects
 
-      by : (p : Place) → Under used p → no_place (held_at l.objects p) l.objects ≡ false → slot_of p used < 32
-      by (At i) h e = omega (arith, few)
-      by Nowhere h e = let a : length l.objects < 32 = leb-false 32 (length l.objects) e in omega (arith, count_shown)
+      by : (p : Option ℕ) → Under used p → no_place (held_at l.objects p) l.objects ≡ false → slot_of p used < 32
+      by (Some i) h e = omega (arith, few)
+      by None h e = let a : length l.objects < 32 = leb-false 32 (length l.objects) e in omega (arith, count_shown)
 
   -- a Topic, by its names and its parent's handle
-  named_moves : (number : ObjectNumber) (parent : ℕ) (x : read.Names) (h : ObjectHandle) → handle_at parent l ≡ handle_shown h
+  named_moves : (number : ObjectNumber) (parent : ℕ) (x : Option (Span × Span)) (h : Option Handle) → handle_at parent l ≡ handle_shown h
       → create_named (bytes_of d x) n number.0 parent l ≡ outcome d t id n l (topic_by number parent x h)
-  named_moves number parent (names.Both name type) (Bridged p) e = rw e
-  named_moves number parent (names.Both name type) Implicit e = rw e
-  named_moves number parent names.Unread (Bridged p) e = refl
-  named_moves number parent names.Unread Implicit e = refl
+  named_moves number parent (Some (name, type)) (Some p) e = rw e
+  named_moves number parent (Some (name, type)) None e = rw e
+  named_moves number parent None (Some p) e = refl
+  named_moves number parent None None e = refl
 
-  topic_moves : (number : ObjectNumber) (parent : ℕ) (h : ObjectHandle) → handle_at parent l ≡ handle_shown h
+  topic_moves : (number : ObjectNumber) (parent : ℕ) (h : Option Handle) → handle_at parent l ≡ handle_shown h
       → create_named (names_of (part_of d body)) n number.0 parent l ≡ outcome d t id n l (topic_by number parent (names_in d body) h)
   topic_moves number parent h e = ap (λ (x : Option Names). create_named x n number.0 parent l) (sym (names_same d body)) ∙ named_moves number parent (names_in d body) h e
 
   -- a writer or a reader, whose call is made of the two handles
   with_moves : (number : ObjectNumber) (kind : ObjectKind) (parent : ℕ) (call : ℕ → ℕ → Call)
       → ((p t : Handle) → call_as d (endpoint_call (kind_byte kind) p t) ≡ call p.0 t.0)
-      → (p q : ObjectHandle)
+      → (p q : Option Handle)
       → if_handles (both_handles (handle_shown p) (handle_shown q)) (λ p t. asks n number.0 (creating (kind_byte kind) parent) (call p t) l) (says n number.0 ErrInvalidData l)
       ≡ outcome d t id n l (endpoint_for number (kind_byte kind) parent p q)
-  with_moves number kind parent call e (Bridged p) (Bridged t) = ap (λ (c : Call). asks n number.0 (creating (kind_byte kind) parent) c l) (sym (e p t))
-  with_moves number kind parent call e (Bridged p) Implicit = refl
-  with_moves number kind parent call e Implicit t = refl
+  with_moves number kind parent call e (Some p) (Some t) = ap (λ (c : Call). asks n number.0 (creating (kind_byte kind) parent) c l) (sym (e p t))
+  with_moves number kind parent call e (Some p) None = refl
+  with_moves number kind parent call e None t = refl
 
   with_view : (number : ObjectNumber) (kind : ObjectKind) (parent : ℕ) (call : ℕ → ℕ → Call)
       → ((p t : Handle) → call_as d (endpoint_call (kind_byte kind) p t) ≡ call p.0 t.0)
@@ -291,12 +284,12 @@ module _ {most : ℕ} (t : Tables) (sound : SoundTables SoundStream most t) (id 
 
   -- a Publisher or a Subscriber is listed
   lists : (number : ObjectNumber) (kind parent : ℕ) → full number.0 l ≡ false
-      → Meets t d id n (says n number.0 Ok (listing number.0 kind none parent l)) (put_tables t id (implicit_of number kind parent)) (Status number Ok)
+      → Meets t d id n (says n number.0 status.Ok (listing number.0 kind None parent l)) (put_tables t id (implicit_of number kind parent)) (Status number status.Ok)
   lists number kind parent e =
       let o = implicit_of number kind parent in
       let reached = reach_objects t sound id id< live in
       record {
-        after = listing number.0 kind none parent l;
+        after = listing number.0 kind None parent l;
         shows = put_here t id id< reached o (slot_in number e) (sound.each id id<).objects_differ ∙ ap (stores.with_objects (put_in l.objects (entry_of o))) (shown_live t id live);
         moves = refl;
         elsewhere = put_elsewhere t id id< reached o (slot_in number e);
@@ -333,7 +326,7 @@ module _ {most : ℕ} (t : Tables) (sound : SoundTables SoundStream most t) (id 
     free_square DataWriter e = stays _ _ (with_view number DataWriter p.parent_id create_writer (λ p t. refl))
     free_square DataReader e = stays _ _ (with_view number DataReader p.parent_id create_reader (λ p t. refl))
 
-    abbrev room_tables : Room → Tables
+    abbrev room_tables : Result Room Refusal → Tables
     room_tables r =
         record {
           sessions = room_sessions r t.sessions t.objects id number p.kind p.parent_id;
@@ -347,7 +340,7 @@ module _ {most : ℕ} (t : Tables) (sound : SoundTables SoundStream most t) (id 
 
     pub create_square : (is_open : Bool) → Squares is_open (sub.Create p) t d id n body
     create_square is_open =
-        subst (λ (r : Room). Meets t d id n (on_create p.kind n number.0 p.parent_id (part_of d body) l) (room_tables r) (room_move r t.sessions t.objects d id number p.kind p.parent_id body))
+        subst (λ (r : Result Room Refusal). Meets t d id n (on_create p.kind n number.0 p.parent_id (part_of d body) l) (room_tables r) (room_move r t.sessions t.objects d id number p.kind p.parent_id body))
         (sym (room_view number)) (by (full number.0 l) (has_dependant l.objects (find_in l.objects number.0)) refl)
       where
         by : (b c : Bool) → full number.0 l ≡ b

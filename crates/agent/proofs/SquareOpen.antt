@@ -3,7 +3,6 @@ use Prim.Native.Nat.{ℕ, zero, suc, ◌+◌, ◌<◌, ◌≤◌}
 use mathlib.Core.Path.{◌≡◌, refl, sym, ap, ◌∙◌, subst}
 use mathlib.Core.Logic.{◌≢◌}
 use mathlib.Core.Bool.{Bool, true, false, cond}
-use mathlib.Core.Option.{Option, none, some}
 use native.Mathlib.Omega.{arith}
 use borrow.Author.Tests.{eqb-true, eqb-false, ltb-true, lt-ltb, ne_eqb}
 use lib.Dec.{eqb, ltb}
@@ -12,8 +11,6 @@ use Rattle.sessions.specs.Table.{is_free}
 use Rattle.sessions.specs.Opening.{after, live_from, live_of, free_from, free_of, taken_as, chosen_of, created_of}
 use Rattle.sessions.specs.View.{Tables, Local, start_of, local_of, absent}
 use Rattle.sessions.specs.Calls.{SoundStream, SoundTables, LeadsTo, create_tables}
-use Rattle.sessions.specs.declared.opening.Created.{Created}
-use Rattle.sessions.specs.declared.opening.Created.TheVariants.{Opened, Refused}
 use Rattle.sessions.proofs.Chosen.{found_by_lem}
 use Rattle.sessions.proofs.Reached.{free_view, created_when}
 use Rattle.sessions.proofs.SoundStreams.{stream_lasts}
@@ -23,6 +20,8 @@ use Rattle.agent.specs.Run.{pointer_of, id_opened}
 use Rattle.agent.specs.Step as agent
 use Rattle.agent.specs.Step.{with_id, next_free, chosen, open_as, keep}
 use Rattle.agent.specs.Whole.{session_in}
+use Rattle.std.specs.Prelude.{Err, Ok, Result, Option, None, Some}
+use Rattle.codec.specs.declared.refusals.Refusal.{Refusal}
 
 -- ---- the view: 256 ids, of which the rows beyond are never read
 
@@ -41,15 +40,15 @@ module _ (t t' : Tables) (id : ℕ) (id< : id < 256) (x : Option Local) (here : 
       by true e = let q : j ≡ id = eqb-true j id e in rw q (sym here ∙ sym (at_in t' id id<))
       by false e = in_table (ltb j 256) refl
         where
-          in_table : (c : Bool) → ltb j 256 ≡ c → cond c (local_of t j) none ≡ cond c (local_of t' j) none
+          in_table : (c : Bool) → ltb j 256 ≡ c → cond c (local_of t j) None ≡ cond c (local_of t' j) None
           in_table true h = sym (elsewhere j (ltb-true j 256 h) (eqb-false j id e))
           in_table false h = refl
 
   pub with_view : ◌≡◌ {A = ℕ → Option Local} (with_id id x (session_in t)) (session_in t')
   with_view = λ i j. with_at j i
 
-pub keep_view : (next : ℕ) (t t' : Tables) (id : ℕ) (l : Local) → id < 256 → local_of t' id ≡ some l → ((j : ℕ) → j < 256 → j ≢ id → local_of t' j ≡ local_of t j) → keep id l (view_of next t) ≡ view_of next t'
-keep_view next t t' id l h e f = λ i. record { next = next; at = with_view t t' id h (some l) e f i }
+pub keep_view : (next : ℕ) (t t' : Tables) (id : ℕ) (l : Local) → id < 256 → local_of t' id ≡ Some l → ((j : ℕ) → j < 256 → j ≢ id → local_of t' j ≡ local_of t j) → keep id l (view_of next t) ≡ view_of next t'
+keep_view next t t' id l h e f = λ i. record { next = next; at = with_view t t' id h (Some l) e f i }
 
 -- ---- which id is taken
 
@@ -76,12 +75,12 @@ module _ (t : Tables) where
     where
       by : (x : Option Local) → absent x ≡ is_free t.sessions i → id_opened (taken_as (free_from (is_free t.sessions) (after i) n)) ≡ next_free (session_in t) (after i) n
           → ◌≡◌ {A = Option ℕ} (id_opened (taken_as (cond (is_free t.sessions i) i (free_from (is_free t.sessions) (after i) n))))
-          (elim x [ none ↦ some i | some l ↦ next_free (session_in t) (after i) n ])
-      by none e later = rw (← e, ne_eqb i 0 (λ z. omega arith)) refl
-      by (some l) e later = rw (← e) later
+          (elim x [ None ↦ Some i | Some l ↦ next_free (session_in t) (after i) n ])
+      by None e later = rw (← e, ne_eqb i 0 (λ z. omega arith)) refl
+      by (Some l) e later = rw (← e) later
 
 module _ (t : Tables) (max : ℕ) (sound : SoundTables SoundStream max t) (next : ℕ) (max≤ : max ≤ 255) (low : 1 ≤ next) (high : next ≤ 255) where
-  abbrev made : Created
+  abbrev made : Result (ℕ × ℕ) Refusal
   made = created_of t.sessions t.streams max next
 
   made_is : made ≡ chosen_of t.sessions max next
@@ -92,22 +91,22 @@ module _ (t : Tables) (max : ℕ) (sound : SoundTables SoundStream max t) (next 
   chosen_view =
       ap id_opened made_is
       ∙ by (ltb (live_from (is_free t.sessions) 1 255) max)
-      ∙ ap (λ (k : ℕ). cond (ltb k max) (next_free (session_in t) next 255) none) (sym (live_same t 255 1 (omega arith)))
+      ∙ ap (λ (k : ℕ). cond (ltb k max) (next_free (session_in t) next 255) None) (sym (live_same t 255 1 (omega arith)))
     where
-      by : (b : Bool) → id_opened (cond b (taken_as (free_from (is_free t.sessions) next 255)) (Refused SessionFull)) ≡ cond b (next_free (session_in t) next 255) none
+      by : (b : Bool) → id_opened (cond b (taken_as (free_from (is_free t.sessions) next 255)) (Err SessionFull)) ≡ cond b (next_free (session_in t) next 255) None
       by true = free_same t 255 next low high
       by false = refl
 
   -- an id that is opened is 1 to 255, and the pointer goes on from there
-  abbrev Opens : Created → Type 0
-  Opens (Opened id n) = (n ≡ after id) × (1 ≤ id) × (id ≤ 255)
-  Opens (Refused r) = Unit {0}
+  abbrev Opens : Result (ℕ × ℕ) Refusal → Type 0
+  Opens (Ok (id, n)) = (n ≡ after id) × (1 ≤ id) × (id ≤ 255)
+  Opens (Err r) = Unit {0}
 
   made_opens : Opens made
   unfolding chosen_of
   made_opens = subst Opens (sym made_is) (by (ltb (live_of t.sessions) max) (eqb (free_of t.sessions next) 0) refl)
     where
-      by : (a b : Bool) → eqb (free_of t.sessions next) 0 ≡ b → Opens (cond a (cond b (Refused SessionFull) (Opened (free_of t.sessions next) (after (free_of t.sessions next)))) (Refused SessionFull))
+      by : (a b : Bool) → eqb (free_of t.sessions next) 0 ≡ b → Opens (cond a (cond b (Err SessionFull) (Ok ((free_of t.sessions next), (after (free_of t.sessions next))))) (Err SessionFull))
       by true true e = tt
       by true false e = let f = found_by_lem t.sessions next low high (eqb-false (free_of t.sessions next) 0 e) in (refl, f.1, f.2)
       by false b e = tt
@@ -115,9 +114,9 @@ module _ (t : Tables) (max : ℕ) (sound : SoundTables SoundStream max t) (next 
   pub pointer_in : (1 ≤ pointer_of made next) × (pointer_of made next ≤ 255)
   pointer_in = by made made_opens
     where
-      by : (c : Created) → Opens c → (1 ≤ pointer_of c next) × (pointer_of c next ≤ 255)
-      by (Opened id n) o = let a = after_in id o.1 o.2 in rw o.0 a
-      by (Refused r) o = (low, high)
+      by : (c : Result (ℕ × ℕ) Refusal) → Opens c → (1 ≤ pointer_of c next) × (pointer_of c next ≤ 255)
+      by (Ok (id, n)) o = let a = after_in id o.1 o.2 in rw o.0 a
+      by (Err r) o = (low, high)
 
   module _ (key time : ℕ) where
     pub creates_led : LeadsTo SoundStream max t (create_tables made t key time)
@@ -126,13 +125,13 @@ module _ (t : Tables) (max : ℕ) (sound : SoundTables SoundStream max t) (next 
     pub open_view : open_as (record { time = time; key = key }) (view_of next t) (id_opened made) ≡ view_of (pointer_of made next) (create_tables made t key time)
     open_view = by made made_opens
       where
-        by : (c : Created) → Opens c → open_as (record { time = time; key = key }) (view_of next t) (id_opened c) ≡ view_of (pointer_of c next) (create_tables c t key time)
-        by (Opened id n) o =
+        by : (c : Result (ℕ × ℕ) Refusal) → Opens c → open_as (record { time = time; key = key }) (view_of next t) (id_opened c) ≡ view_of (pointer_of c next) (create_tables c t key time)
+        by (Ok (id, n)) o =
             let h : id < 256 = omega (arith, o.2) in
             λ i. record {
               next = sym o.0 i;
-              at = with_view t (create_tables (Opened id n) t key time) id h (some (start_of id key time))
+              at = with_view t (create_tables (Ok (id, n)) t key time) id h (Some (start_of id key time))
                   (open_here t id n key time sound.sessions_need_lem sound.streams_need_lem h)
                   (λ j l q. open_elsewhere t id n key time sound.sessions_need_lem sound.streams_need_lem h j q) i;
             }
-        by (Refused r) o = refl
+        by (Err r) o = refl

@@ -3,7 +3,6 @@ use Prim.Native.Nat.{ℕ, zero, suc, ◌-◌, ◌<◌, ◌≤◌}
 use mathlib.Core.Path.{◌≡◌, refl, sym, ap, ◌∙◌, subst}
 use mathlib.Core.Logic.{◌≢◌}
 use mathlib.Core.Bool.{Bool, true, false, cond}
-use mathlib.Core.Option.{some}
 use mathlib.Core.List.{List, [], ◌∷◌, ◌++◌, map, append-nil}
 use native.Mathlib.Omega.{arith}
 use borrow.Author.Tests.{ltb-true, ltb-false, le-ltb}
@@ -12,8 +11,6 @@ use lib.ListN.{length}
 use Rattle.codec.specs.Reading.{part_of, Item, Items, items, stopped, before as heads, onward, read_at, items_at}
 use Rattle.codec.specs.Rebuilt.{barred, any_barred}
 use Rattle.codec.specs.declared.layouts.Cursor.{Cursor}
-use Rattle.codec.specs.declared.layouts.Parsed.{Parsed}
-use Rattle.codec.specs.declared.layouts.Parsed.TheVariants as parsed
 use Rattle.codec.specs.declared.layouts.Span.{Span}
 use Rattle.codec.specs.declared.submessages.ObjectNumber.{ObjectNumber}
 use Rattle.codec.specs.declared.submessages.Submessage.{Submessage}
@@ -24,8 +21,6 @@ use Rattle.isolation.specs.Rules.{Bytes, done, calls}
 use Rattle.sessions.specs.Table.{named_of, touched_rows}
 use Rattle.sessions.specs.View.{Tables, Local, local_of}
 use Rattle.sessions.specs.Calls.{SoundStream, SoundTables, LeadsTo}
-use Rattle.sessions.specs.declared.table.Named.{Named}
-use Rattle.sessions.specs.declared.table.Named.TheVariants.{Live, NotLive}
 use Rattle.sessions.proofs.Reached.{named_when}
 use Rattle.sessions.proofs.SoundStreams.{stream_lasts}
 use Rattle.sessions.proofs.Steps.{same_led}
@@ -53,6 +48,8 @@ use Rattle.agent.specs.declared.turn.Taken.{Taken}
 use Rattle.agent.proofs.Place.{items_not, ins_end, ins_more}
 use Rattle.agent.proofs.Square.{outcome, led_on, live_shown}
 use Rattle.agent.proofs.SquareHandled.{turn_led, turn_square}
+use Rattle.std.specs.Prelude.{Err, Ok, Result, Some}
+use Rattle.codec.specs.declared.refusals.Refusal.{Refusal}
 
 -- ---- what waits behind a call
 
@@ -84,7 +81,7 @@ pub record Works (f : Frame) (s : List ℕ) (t : Tables) (r : Ran) (from : Rows)
   pub after : Local
   pub bytes : List Bytes
   pub replies : y.replies ≡ map (replied f.session_id) bytes
-  pub shows : local_of (with_rows t y.rows) f.session_id ≡ some after
+  pub shows : local_of (with_rows t y.rows) f.session_id ≡ Some after
   pub moves : (bs : List Bytes) → Worked f s y.ran.stop y.ran.at after (bs ++ bytes) (onto (ins_at f.moment f.stream_id s r.at) (done l bs))
   pub elsewhere : (j : ℕ) → j ≢ f.session_id → local_of (with_rows t y.rows) j ≡ local_of (with_rows t from) j
   pub led : LeadsTo SoundStream f.max_clients (with_rows t from) (with_rows t y.rows)
@@ -148,7 +145,7 @@ module _ (f : Frame) (s : List ℕ) (t : Tables) where
     pub next : y.ran.next ≡ r.next
     pub stop : y.ran.stop ≡ r.stop
 
-  module _ (from : Rows) (gone : named_of from.sessions id ≡ NotLive) where
+  module _ (from : Rows) (gone : named_of from.sessions id ≡ (Ok false)) where
     pub untouched : touched_in f from ≡ from
     unfolding touched_rows
     untouched = rw gone refl
@@ -158,7 +155,7 @@ module _ (f : Frame) (s : List ℕ) (t : Tables) where
     still_inside r = let x = taken_of (read_at s r.at) (length s) in by x.asked.opening x
       where
         by : (o : handles.Opening) (x : Taken) → Still r from (inside_by o f from h s r x)
-        by handle.Other x = subst (λ (w : Named). Still r from (delivered w f from h s r x)) (sym gone) (record { rows = untouched; replies = refl; next = refl; stop = refl })
+        by handle.Other x = subst (λ (w : Result Bool Refusal). Still r from (delivered w f from h s r x)) (sym gone) (record { rows = untouched; replies = refl; next = refl; stop = refl })
         by handle.Client x = record { rows = refl; replies = refl; next = refl; stop = refl }
         by handle.Fragment x = record { rows = refl; replies = refl; next = refl; stop = refl }
         by handle.Unread x = record { rows = refl; replies = refl; next = refl; stop = refl }
@@ -190,7 +187,7 @@ module _ (f : Frame) (s : List ℕ) (t : Tables) where
     ins_from at = ins_at f.moment n s at
 
     -- at the end
-    ended : (r : Ran) (from : Rows) (l : Local) → SoundTables SoundStream f.max_clients (with_rows t from) → local_of (with_rows t from) id ≡ some l → r.stop ≡ stop.Nothing
+    ended : (r : Ran) (from : Rows) (l : Local) → SoundTables SoundStream f.max_clients (with_rows t from) → local_of (with_rows t from) id ≡ Some l → r.stop ≡ stop.Nothing
         → r.at ≤ length s → (ys : List Item) → items_at s r.at ≡ items ys → any_barred ys ≡ false → length s ≤ r.at → Works f s t r from l (idle r from)
     unfolding onto
     ended r from l sound is quiet within ys e none_of past = record {
@@ -208,13 +205,13 @@ module _ (f : Frame) (s : List ℕ) (t : Tables) where
     }
 
     abbrev Goes : ℕ → Type 0
-    Goes left = (r : Ran) (from : Rows) (l : Local) (ys : List Item) → SoundTables SoundStream f.max_clients (with_rows t from) → local_of (with_rows t from) id ≡ some l → r.stop ≡ stop.Nothing
+    Goes left = (r : Ran) (from : Rows) (l : Local) (ys : List Item) → SoundTables SoundStream f.max_clients (with_rows t from) → local_of (with_rows t from) id ≡ Some l → r.stop ≡ stop.Nothing
         → r.at ≤ length s → items_at s r.at ≡ items ys → any_barred ys ≡ false → length s - r.at ≤ left → Works f s t r from l (work_in left f h s r from)
 
     -- one submessage and what is behind it
     module _ (left : ℕ) (go : Goes left) (r : Ran) (from to : Rows) (l after : Local) (i : In) (at : ℕ) (zs : List Item) (some_bytes : 0 < length s)
         (more : ins_from r.at ≡ i ∷ ins_from at)
-        (shows : local_of (with_rows t to) id ≡ some after)
+        (shows : local_of (with_rows t to) id ≡ Some after)
         (elsewhere : (j : ℕ) → j ≢ id → local_of (with_rows t to) j ≡ local_of (with_rows t from) j)
         (led : LeadsTo SoundStream f.max_clients (with_rows t from) (with_rows t to))
         (within : at ≤ length s) (reads : items_at s at ≡ items zs) (none_of : any_barred zs ≡ false) (few : length s - at ≤ left) where
@@ -271,14 +268,14 @@ module _ (f : Frame) (s : List ℕ) (t : Tables) where
       one Silent e = speaks _ [] e
 
     -- the first of them, as it is read
-    inside_is : (r : Ran) (from : Rows) (m : Submessage) (x : Span) (c : Cursor) → named_of from.sessions id ≡ Live → barred m ≡ false → read_at s r.at ≡ parsed.Sub m x c
+    inside_is : (r : Ran) (from : Rows) (m : Submessage) (x : Span) (c : Cursor) → named_of from.sessions id ≡ (Ok true) → barred m ≡ false → read_at s r.at ≡ Ok (m, x, c)
         → inside_turned f from h s r ≡ acted f r c.at (handled_move f.moment.is_open (asks_of m) (touched_in f from) s id n x) (handled_rows (asks_of m) (touched_in f from) id n) h
     unfolding inside_turned
     inside_is r from m x c live b e =
         let taken : Taken = record { asked = asks_of m; body = x; at = c.at } in
-        ap (λ (p : Parsed). let z = taken_of p (length s) in inside_by z.asked.opening f from h s r z) e
+        ap (λ (p : Result (Submessage × Span × Cursor) Refusal). let z = taken_of p (length s) in inside_by z.asked.opening f from h s r z) e
         ∙ ap (λ (o : handles.Opening). inside_by o f from h s r taken) (other_opening m b)
-        ∙ ap (λ (w : Named). delivered w f from h s r taken) live
+        ∙ ap (λ (w : Result Bool Refusal). delivered w f from h s r taken) live
 
     goes_on_lem : (left : ℕ) → Goes left
     goes_on_lem zero r from l ys sound is quiet within e none_of few =
@@ -291,20 +288,20 @@ module _ (f : Frame) (s : List ℕ) (t : Tables) where
         All : Type 0
         All = Works f s t r from l (then turn (work_in left f h s turn.ran turn.rows))
 
-        live : named_of from.sessions id ≡ Live
-        live = named_when from.sessions id sound.sessions_need_lem ∙ ap (λ (b : Bool). cond b NotLive Live) (live_shown (with_rows t from) id l is)
+        live : named_of from.sessions id ≡ (Ok true)
+        live = named_when from.sessions id sound.sessions_need_lem ∙ ap (λ (b : Bool). cond b (Ok false) (Ok true)) (live_shown (with_rows t from) id l is)
 
-        inside : r.at < length s → Goes left → (q : Parsed) → read_at s r.at ≡ q → All
-        inside k go (parsed.Refused x) g = absurd (items_not ys x (sym (items_more s r.at k ∙ ap (λ (q : Parsed). onward q (items_at s)) g) ∙ e))
-        inside k go (parsed.Sub m x c) g = on (items_at s c.at) refl
+        inside : r.at < length s → Goes left → (q : Result (Submessage × Span × Cursor) Refusal) → read_at s r.at ≡ q → All
+        inside k go (Err x) g = absurd (items_not ys x (sym (items_more s r.at k ∙ ap (λ (q : Result (Submessage × Span × Cursor) Refusal). onward q (items_at s)) g) ∙ e))
+        inside k go (Ok (m, x, c)) g = on (items_at s c.at) refl
           where
             first : Item
             first = record { says = m; span = x }
 
             on : (i : Items) → items_at s c.at ≡ i → All
-            on (stopped z) j = absurd (items_not ys z (sym (items_more s r.at k ∙ ap (λ (q : Parsed). onward q (items_at s)) g ∙ ap (heads first) j) ∙ e))
+            on (stopped z) j = absurd (items_not ys z (sym (items_more s r.at k ∙ ap (λ (q : Result (Submessage × Span × Cursor) Refusal). onward q (items_at s)) g ∙ ap (heads first) j) ∙ e))
             on (items zs) j =
-                let whole : items (first ∷ zs) ≡ items ys = sym (items_more s r.at k ∙ ap (λ (q : Parsed). onward q (items_at s)) g ∙ ap (heads first) j) ∙ e in
+                let whole : items (first ∷ zs) ≡ items ys = sym (items_more s r.at k ∙ ap (λ (q : Result (Submessage × Span × Cursor) Refusal). onward q (items_at s)) g ∙ ap (heads first) j) ∙ e in
                 let same : first ∷ zs ≡ ys = cc in
                 let b = none_barred first zs (ap any_barred same ∙ none_of) in
                 let p = read_placed s r.at m x c g in
@@ -320,11 +317,11 @@ module _ (f : Frame) (s : List ℕ) (t : Tables) where
         by false q go = subst (Works f s t r from l) (sym (work_ends (suc left) r from (idle_goes r quiet ∙ q))) (ended r from l sound is quiet within ys e none_of (ltb-false r.at (length s) q))
 
     -- the work from a place of bytes that were checked
-    pub work_square : (r : Ran) (from : Rows) (l : Local) (ys : List Item) → SoundTables SoundStream f.max_clients (with_rows t from) → local_of (with_rows t from) id ≡ some l → r.stop ≡ stop.Nothing
+    pub work_square : (r : Ran) (from : Rows) (l : Local) (ys : List Item) → SoundTables SoundStream f.max_clients (with_rows t from) → local_of (with_rows t from) id ≡ Some l → r.stop ≡ stop.Nothing
         → r.at ≤ length s → items_at s r.at ≡ items ys → any_barred ys ≡ false → Works f s t r from l (work_at f t.held s r from)
     unfolding work_at
     work_square r from l ys sound is quiet within e none_of = goes_on_lem (length s - r.at) r from l ys sound is quiet within e none_of (omega arith)
 
-  pub still_square : (from : Rows) → named_of from.sessions id ≡ NotLive → (r : Ran) → Still r from (work_at f t.held s r from)
+  pub still_square : (from : Rows) → named_of from.sessions id ≡ (Ok false) → (r : Ran) → Still r from (work_at f t.held s r from)
   unfolding work_at
   still_square from gone r = still_in from gone (length s - r.at) r

@@ -2,7 +2,6 @@
 use Prim.Native.Nat.{ℕ, zero, suc, ◌-◌, ◌<◌, ◌≤◌}
 use mathlib.Core.Path.{◌≡◌, refl, sym, ap, ◌∙◌, subst}
 use mathlib.Core.Bool.{Bool, true, false, cond}
-use mathlib.Core.Option.{Option, none, some}
 use mathlib.Core.List.{List, [], ◌∷◌, ◌++◌, append-nil}
 use native.Mathlib.Omega.{arith}
 use borrow.Author.Tests.{ltb-true, ltb-false, le-ltb}
@@ -10,8 +9,6 @@ use lib.Dec.{ltb}
 use lib.ListN.{length}
 use Rattle.codec.specs.Reading.{part_of, Item, Items, items, stopped, before as heads, onward, read_at, items_at}
 use Rattle.codec.specs.declared.layouts.Cursor.{Cursor}
-use Rattle.codec.specs.declared.layouts.Parsed.{Parsed}
-use Rattle.codec.specs.declared.layouts.Parsed.TheVariants as parsed
 use Rattle.codec.specs.declared.layouts.Span.{Span}
 use Rattle.codec.specs.declared.submessages.FragmentPayload.{FragmentPayload}
 use Rattle.codec.specs.declared.submessages.Submessage.{Submessage}
@@ -22,10 +19,6 @@ use Rattle.sessions.specs.Table.{is_free, named_of}
 use Rattle.sessions.specs.Opening.{created_of}
 use Rattle.sessions.specs.View.{Tables, Local, local_of, absent}
 use Rattle.sessions.specs.Calls.{SoundStream, SoundTables, LeadsTo, create_tables}
-use Rattle.sessions.specs.declared.opening.Created.{Created}
-use Rattle.sessions.specs.declared.opening.Created.TheVariants as created
-use Rattle.sessions.specs.declared.table.Named.{Named}
-use Rattle.sessions.specs.declared.table.Named.TheVariants.{Live, NotLive}
 use Rattle.sessions.proofs.Reached.{free_view, named_when}
 use Rattle.sessions.proofs.SoundStreams.{stream_lasts}
 use Rattle.sessions.proofs.Steps.{same_led}
@@ -49,15 +42,17 @@ use Rattle.agent.proofs.Square.{led_on}
 use Rattle.agent.proofs.SquareFragments.{Kept, Moved, Acts, Quiet, plain_acts, fragment_acts, fragment_quiet}
 use Rattle.agent.proofs.SquareOpen.{view_of, at_in, keep_view, chosen_view, pointer_in, creates_led, open_view}
 use Rattle.agent.proofs.SquareRebuilt.{asked_as, untouched}
+use Rattle.std.specs.Prelude.{Err, Ok, Result, Option, None, Some}
+use Rattle.codec.specs.declared.refusals.Refusal.{Refusal}
 
 -- ---- what a run stops at
 
 -- the call handed out, and what is open then: its place is the one behind its submessage; it shows parts of its datagram, or (W6) of the rebuilt bytes, and then the
 -- other rebuilt submessages wait
 abbrev pub stop_as : Frame → List ℕ → List ℕ → Stop → ℕ → Option (Call × Open)
-stop_as f d rebuilt stop.Nothing at = none
+stop_as f d rebuilt stop.Nothing at = None
 stop_as f d rebuilt (stop.Call number task call) at =
-    some (
+    Some (
       call_as d call,
       record {
         session = f.session_id;
@@ -66,7 +61,7 @@ stop_as f d rebuilt (stop.Call number task call) at =
       },
     )
 stop_as f d rebuilt (stop.Inside number task call a e) at =
-    some (
+    Some (
       call_as (rebuilt_part rebuilt e) call,
       record {
         session = f.session_id;
@@ -132,7 +127,7 @@ module _ (f : Frame) (d : List ℕ) (max≤ : f.max_clients ≤ 255) (id< : f.se
     abbrev delivers : Option Local → agent.Ran
     delivers l = deliver id (rest_at at) (view_of next t) l rule (λ t'. runs (rest_at at) t')
 
-    live_turns : (l : Local) → local_of t id ≡ some l → Acts f d t next at (rule l) x → Turns t (delivers (session_in t id)) at x
+    live_turns : (l : Local) → local_of t id ≡ Some l → Acts f d t next at (rule l) x → Turns t (delivers (session_in t id)) at x
     live_turns l e q = record {
       goes = ap delivers (at_in t id id< ∙ e) ∙ acts x.ran.stop q.moves;
       led = q.led;
@@ -145,7 +140,7 @@ module _ (f : Frame) (d : List ℕ) (max≤ : f.max_clients ≤ 255) (id< : f.se
         view : keep id q.after (view_of next t) ≡ view_of x.ran.next x.tables
         view = keep_view next t x.tables id q.after id< q.shows q.elsewhere ∙ ap (λ (k : ℕ). view_of k x.tables) (sym q.pointer)
 
-        acts : (s : Stop) → Moved f d x.tables.rebuilt s q.after q.bytes (rule l) → delivers (some l) ≡ onward_from s x
+        acts : (s : Stop) → Moved f d x.tables.rebuilt s q.after q.bytes (rule l) → delivers (Some l) ≡ onward_from s x
         acts stop.Nothing m =
             ap (λ (w : Working). act id (rest_at at) (view_of next t) w (λ t'. runs (rest_at at) t')) m
             ∙ (λ i. behind (sym q.replies i) (runs (rest_at (sym q.place i)) (view i)))
@@ -161,7 +156,7 @@ module _ (f : Frame) (d : List ℕ) (max≤ : f.max_clients ≤ 255) (id< : f.se
         waits (stop.Call number task call) m = tt
         waits (stop.Inside number task call a e) m = m.0
 
-    gone_turns : local_of t id ≡ none → Quiet t next at x → Turns t (delivers (session_in t id)) at x
+    gone_turns : local_of t id ≡ None → Quiet t next at x → Turns t (delivers (session_in t id)) at x
     gone_turns e q = record {
       goes = ap delivers (at_in t id id< ∙ e) ∙ (λ i. behind (sym q.replies i) (runs (rest_at (sym q.place i)) (view_of (sym q.pointer i) (sym q.tables i)))) ∙ ap (λ (s : Stop). onward_from s x) (sym q.stop);
       led = subst (LeadsTo SoundStream max t) (sym q.tables) (same_led SoundStream stream_lasts max t sound);
@@ -171,13 +166,13 @@ module _ (f : Frame) (d : List ℕ) (max≤ : f.max_clients ≤ 255) (id< : f.se
       kept = subst (StopKept x.tables.rebuilt) (sym q.stop) tt;
     }
 
-    pub session_turns : ((l : Local) → local_of t id ≡ some l → Acts f d t next at (rule l) x) → (local_of t id ≡ none → Quiet t next at x)
+    pub session_turns : ((l : Local) → local_of t id ≡ Some l → Acts f d t next at (rule l) x) → (local_of t id ≡ None → Quiet t next at x)
         → Turns t (deliver id (rest_at at) (view_of next t) (session_in t id) rule (λ t'. runs (rest_at at) t')) at x
     session_turns acts quiet = by (local_of t id) refl
       where
         by : (l : Option Local) → local_of t id ≡ l → Turns t (delivers (session_in t id)) at x
-        by none e = gone_turns e (quiet e)
-        by (some l) e = live_turns l e (acts l e)
+        by None e = gone_turns e (quiet e)
+        by (Some l) e = live_turns l e (acts l e)
 
   module _ (t : Tables) (sound : SoundTables SoundStream max t) (r : Ran) (idle : r.stop ≡ stop.Nothing) (low : 1 ≤ r.next) (high : r.next ≤ 255) (at : ℕ) where
     abbrev v : agent.Tables
@@ -188,12 +183,12 @@ module _ (f : Frame) (d : List ℕ) (max≤ : f.max_clients ≤ 255) (id< : f.se
       abbrev o : Opening
       o = record { time = f.moment.time; key = key }
 
-      abbrev c : Created
+      abbrev c : Result (ℕ × ℕ) Refusal
       c = created_of t.sessions t.streams max r.next
 
-      greets_on : (c : Created) → stop_of (greeting c) ≡ stop.Nothing
-      greets_on (created.Opened i k) = refl
-      greets_on (created.Refused x) = refl
+      greets_on : (c : Result (ℕ × ℕ) Refusal) → stop_of (greeting c) ≡ stop.Nothing
+      greets_on (Ok (i, k)) = refl
+      greets_on (Err x) = refl
 
       client_goes : runs (opens o ∷ rest_at at) v ≡ behind (opened (id_opened c) ∷ []) (runs (rest_at at) (view_of (opening f t r key at).ran.next (create_tables c t key f.moment.time)))
       unfolding run
@@ -213,8 +208,8 @@ module _ (f : Frame) (d : List ℕ) (max≤ : f.max_clients ≤ 255) (id< : f.se
             kept = subst (StopKept t.rebuilt) (sym (greets_on c)) tt;
           }
 
-    named_free : (b : Bool) → is_free t.sessions id ≡ b → named_of t.sessions id ≡ cond b NotLive Live
-    named_free b e = named_when t.sessions id sound.sessions_need_lem ∙ ap (λ (b : Bool). cond b NotLive Live) e
+    named_free : (b : Bool) → is_free t.sessions id ≡ b → named_of t.sessions id ≡ cond b (Ok false) (Ok true)
+    named_free b e = named_when t.sessions id sound.sessions_need_lem ∙ ap (λ (b : Bool). cond b (Ok false) (Ok true)) e
 
     -- a submessage as it stands
     plain_turns : (m : Submessage) (body : Span)
@@ -222,11 +217,11 @@ module _ (f : Frame) (d : List ℕ) (max≤ : f.max_clients ≤ 255) (id< : f.se
         (with_acted t (delivered (named_of t.sessions id) f (rows_of t) t.held d r (record { asked = asks_of m; body = body; at = at })))
     plain_turns m body =
         session_turns t sound r.next low high at (λ l. onto [] (plain l (in_of f.moment n m (part_of d body)))) (X (named_of t.sessions id))
-        (λ l e. subst (λ (w : Named). Acts f d t r.next at (onto [] (plain l (in_of f.moment n m (part_of d body)))) (X w)) (sym (named_free false (free_view t id ∙ ap absent e))) (plain_acts f d max≤ id< n< t sound r at l e m body))
+        (λ l e. subst (λ (w : Result Bool Refusal). Acts f d t r.next at (onto [] (plain l (in_of f.moment n m (part_of d body)))) (X w)) (sym (named_free false (free_view t id ∙ ap absent e))) (plain_acts f d max≤ id< n< t sound r at l e m body))
         (λ e. let z = named_free true (free_view t id ∙ ap absent e) in
-        subst (λ (w : Named). Quiet t r.next at (X w)) (sym z) (record { tables = ap (with_rows t) (untouched f d t (rows_of t) z); replies = refl; stop = idle; pointer = refl; place = refl }))
+        subst (λ (w : Result Bool Refusal). Quiet t r.next at (X w)) (sym z) (record { tables = ap (with_rows t) (untouched f d t (rows_of t) z); replies = refl; stop = idle; pointer = refl; place = refl }))
       where
-        X : Named → Turned
+        X : Result Bool Refusal → Turned
         X w = with_acted t (delivered w f (rows_of t) t.held d r (record { asked = asks_of m; body = body; at = at }))
 
     fragment_turns : (p : FragmentPayload) (body : Span)
@@ -241,7 +236,7 @@ module _ (f : Frame) (d : List ℕ) (max≤ : f.max_clients ≤ 255) (id< : f.se
   module _ (t : Tables) (sound : SoundTables SoundStream max t) (r : Ran) (idle : r.stop ≡ stop.Nothing) (low : 1 ≤ r.next) (high : r.next ≤ 255) where
     -- each kind
     sub_turns : (m : Submessage) (body : Span) (k : Cursor)
-        → Turns t (runs (sub_from f.moment n m (part_of d body) ∷ rest_at k.at) (view_of r.next t)) k.at (turned_by (parsed.Sub m body k) f t d r)
+        → Turns t (runs (sub_from f.moment n m (part_of d body) ∷ rest_at k.at) (view_of r.next t)) k.at (turned_by (Ok (m, body, k)) f t d r)
     unfolding run
     sub_turns (sub.CreateClient p) body k = client_turns t sound r idle low high k.at p.client_key
     sub_turns (sub.Create p) body k = plain_turns t sound r idle low high k.at (sub.Create p) body
@@ -254,7 +249,7 @@ module _ (f : Frame) (d : List ℕ) (max≤ : f.max_clients ≤ 255) (id< : f.se
     sub_turns (sub.Acknack p) body k = plain_turns t sound r idle low high k.at (sub.Acknack p) body
     sub_turns (sub.Fragment p) body k = fragment_turns t sound r idle low high k.at p body
 
-    read_turns : (m : Submessage) (body : Span) (k : Cursor) → read_at d r.at ≡ parsed.Sub m body k
+    read_turns : (m : Submessage) (body : Span) (k : Cursor) → read_at d r.at ≡ Ok (m, body, k)
         → Turns t (runs (sub_from f.moment n m (part_of d body) ∷ rest_at k.at) (view_of r.next t)) k.at (turned f t d r)
     unfolding turned
     read_turns m body k e = rw e (sub_turns m body k)
@@ -282,7 +277,7 @@ module _ (f : Frame) (d : List ℕ) (max≤ : f.max_clients ≤ 255) (id< : f.se
       → RunSquare f d t (runs (rest_at r.at) (view_of r.next t)) (idle_run r t)
   unfolding run
   ended r t sound idle low high within ys e h =
-      let z : runs (rest_at r.at) (view_of r.next t) ≡ record { tables = view_of r.next t; replies = []; stop = none } = ap (λ (ss : List (Sub Opening In)). runs ss (view_of r.next t)) (subs_end f.moment n d r.at h) in
+      let z : runs (rest_at r.at) (view_of r.next t) ≡ record { tables = view_of r.next t; replies = []; stop = None } = ap (λ (ss : List (Sub Opening In)). runs ss (view_of r.next t)) (subs_end f.moment n d r.at h) in
       record {
         tables = ap (λ (y : agent.Ran). y.tables) z;
         replies = ap (λ (y : agent.Ran). y.replies) z;
@@ -349,12 +344,12 @@ module _ (f : Frame) (d : List ℕ) (max≤ : f.max_clients ≤ 255) (id< : f.se
       (ended r t sound idle low high within ys e (omega arith))
   goes_on_lem (suc left) r t ys sound idle low high within e h = by (ltb r.at (length d)) refl (goes_on_lem left)
     where
-      inside : r.at < length d → Goes left → (q : Parsed) → read_at d r.at ≡ q → RunSquare f d t (runs (rest_at r.at) (view_of r.next t)) (before (turned f t d r) (λ r' t'. run_in left f d r' t'))
-      inside k go (parsed.Refused x) g = absurd (items_not ys x (sym (items_more d r.at k ∙ ap (λ (q : Parsed). onward q (items_at d)) g) ∙ e))
-      inside k go (parsed.Sub m x c) g = on (items_at d c.at) refl
+      inside : r.at < length d → Goes left → (q : Result (Submessage × Span × Cursor) Refusal) → read_at d r.at ≡ q → RunSquare f d t (runs (rest_at r.at) (view_of r.next t)) (before (turned f t d r) (λ r' t'. run_in left f d r' t'))
+      inside k go (Err x) g = absurd (items_not ys x (sym (items_more d r.at k ∙ ap (λ (q : Result (Submessage × Span × Cursor) Refusal). onward q (items_at d)) g) ∙ e))
+      inside k go (Ok (m, x, c)) g = on (items_at d c.at) refl
         where
           on : (i : Items) → items_at d c.at ≡ i → RunSquare f d t (runs (rest_at r.at) (view_of r.next t)) (before (turned f t d r) (λ r' t'. run_in left f d r' t'))
-          on (stopped z) j = absurd (items_not ys z (sym (items_more d r.at k ∙ ap (λ (q : Parsed). onward q (items_at d)) g ∙ ap (λ (i : Items). heads (record { says = m; span = x }) i) j) ∙ e))
+          on (stopped z) j = absurd (items_not ys z (sym (items_more d r.at k ∙ ap (λ (q : Result (Submessage × Span × Cursor) Refusal). onward q (items_at d)) g ∙ ap (λ (i : Items). heads (record { says = m; span = x }) i) j) ∙ e))
           on (items zs) j =
               let p = read_placed d r.at m x c g in
               let a = p.ahead in

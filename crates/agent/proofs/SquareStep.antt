@@ -2,7 +2,6 @@
 use Prim.Native.Nat.{ℕ, ◌+◌, ◌<◌, ◌≤◌}
 use mathlib.Core.Path.{◌≡◌, refl, sym, ap, ◌∙◌, subst}
 use mathlib.Core.Bool.{Bool, true, false, cond}
-use mathlib.Core.Option.{Option, none, some}
 use mathlib.Core.List.{List, [], map}
 use native.Mathlib.Omega.{arith}
 use borrow.Author.Tests.{ltb-true, ltb-false, lt-ltb, le-ltb, le-leb, leb-true, leb-false, ne_eqb}
@@ -15,16 +14,12 @@ use Rattle.codec.specs.Grammar.{said_in, reading_of, reading}
 use Rattle.codec.specs.Rebuilt.{rebuilt_at}
 use Rattle.codec.specs.Refusals.{number_of, byte_of}
 use Rattle.codec.specs.declared.refusals.Refusal.{Refusal}
-use Rattle.codec.specs.declared.reading.Checked.{Checked}
 use Rattle.codec.specs.declared.refusals.Refusal.TheVariants.{BufferTooShort, OutOfTurn, OverLimit, TooLong, StoreFull, OutputTooShort, NoSuchMinute, WindowFault}
 use Rattle.codec.proofs.reading.Laws.{items_end}
 use Rattle.codec.proofs.rebuilt.Laws.{rebuilt_is}
 use Rattle.isolation.specs.Rules.{Sub}
-use Rattle.streams.specs.declared.sent.Slot.{Slot}
 use Rattle.hours.specs.Windows.{Window, week_minutes, is_open, all_fit, checked_of as checkedWindows}
 use Rattle.hours.specs.Week.{is_minute, kept_hours, open_in}
-use Rattle.hours.specs.declared.windows.Windows.{Windows}
-use Rattle.hours.specs.declared.windows.Windows.TheVariants as windows
 use Rattle.hours.proofs.Promises.{opens_same}
 use Rattle.hours.proofs.week.Laws.{length_kept, kept_week}
 use Rattle.sessions.specs.Limits.{limits_of}
@@ -33,12 +28,6 @@ use Rattle.sessions.specs.Sweep.{expired_ids, evicted_rows, swept_rows}
 use Rattle.sessions.specs.Table.{is_free, ended_rows}
 use Rattle.sessions.specs.View.{Tables, Local, local_of, absent}
 use Rattle.sessions.specs.Calls.{SoundTables, SoundStream, with_sessions, set_up_tables}
-use Rattle.sessions.specs.declared.limits.Limits.{Limits}
-use Rattle.sessions.specs.declared.limits.Limits.TheVariants.{Within}
-use Rattle.sessions.specs.declared.setup.SetUp.{SetUp}
-use Rattle.sessions.specs.declared.setup.SetUp.TheVariants as setup
-use Rattle.sessions.specs.declared.table.Named.{Named}
-use Rattle.sessions.specs.declared.table.Named.TheVariants as named
 use Rattle.streams.proofs.Soundness.{sound_limits}
 use Rattle.sessions.proofs.Calls.{within_limits}
 use Rattle.sessions.proofs.Empty.{long, first_is}
@@ -60,13 +49,7 @@ use Rattle.agent.specs.Judge.{record_sound, datagram_start, answer_start, answer
 use Rattle.agent.specs.Host as host
 use Rattle.agent.specs.Host.{Leaves, performed, finished_of, finish, processed_by, process_of, idle_of, removed_as, removed_by, removed_rows, set_up_by, set_up_as, no_given}
 use Rattle.agent.specs.Whole.{State, Event, datagram, answer, removal, sweep, Did, did_by, removed_result, with_rows, step_of, session_in, agent_of, event_of, set_up_with, empty_of}
-use Rattle.agent.specs.declared.agent.AgentSetUp.TheVariants as ready
-use Rattle.agent.specs.declared.agent.Idle.{Idle}
-use Rattle.agent.specs.declared.agent.Idle.TheVariants as idle
 use Rattle.agent.specs.declared.judge.Input.TheVariants as input
-use Rattle.agent.specs.declared.judge.Judged.{Judged}
-use Rattle.agent.specs.declared.judge.Judged.TheVariants as judged
-use Rattle.agent.specs.declared.judge.Resumes.TheVariants as resumes
 use Rattle.agent.specs.declared.judge.Start.{Start}
 use Rattle.agent.specs.declared.judge.Turn.TheVariants as turn
 use Rattle.moves.specs.declared.proxy.BridgeAnswer.{BridgeAnswer}
@@ -77,8 +60,6 @@ use Rattle.agent.specs.declared.state.Agent.{Agent}
 use Rattle.agent.specs.declared.state.Given.{Given}
 use Rattle.agent.specs.declared.state.Moment.{Moment}
 use Rattle.agent.specs.declared.state.Pending.{Pending}
-use Rattle.agent.specs.declared.state.Waiting.{Waiting}
-use Rattle.agent.specs.declared.state.Waiting.TheVariants as waiting
 use Rattle.agent.specs.declared.turn.Frame.{Frame}
 use Rattle.agent.specs.declared.turn.Ran.{Ran}
 use Rattle.agent.specs.declared.turn.Stop.{Stop}
@@ -97,6 +78,8 @@ use Rattle.agent.proofs.SquareHost.{empty_view, remove_view, swept_view, swept_i
 use Rattle.agent.proofs.SquareOpen.{view_of, at_in}
 use Rattle.agent.proofs.SquareRebuilt.{asked_as}
 use Rattle.agent.proofs.SquareRun.{stop_as, StopKept, RunSquare, Turns, session_turns, turns_on, run_square}
+use Rattle.std.specs.Prelude.{Err, None, Ok, Result, Some, Option}
+use Rattle.codec.specs.declared.header.MessageHeader.{MessageHeader}
 
 -- ---- what holds of all states that calls lead to
 
@@ -109,9 +92,9 @@ pub record WaitsFor (t : Tables) (d : List ℕ) (p : Pending) : Type 0 where
   pub left : Left t.rebuilt p.left_at p.left_end
   pub room : RoomAt (task_as p.task) p.number.0 (session_in t p.session_id)
 
-abbrev pub Waits : Tables → List ℕ → Waiting → Type 0
-Waits t d waiting.Nothing = Unit {0}
-Waits t d (waiting.Call p) = WaitsFor t d p
+abbrev pub Waits : Tables → List ℕ → Option Pending → Type 0
+Waits t d None = Unit {0}
+Waits t d (Some p) = WaitsFor t d p
 
 pub record Inv (st : State) : Type 0 where
   pub few : st.agent.max_clients ≤ 255
@@ -156,7 +139,7 @@ module _ (st : State) (v : Inv st) (out d : List ℕ) (x : Start) (session_in_le
 
   module _ (next at wrote : ℕ) (t : Tables) (rs : List Reply) (low : 1 ≤ next) (high : next ≤ 255) (within : at ≤ length d) (reads : (ys : List Item) × (items_at d at ≡ items ys))
       (sound : SoundTables SoundStream st.agent.max_clients t) where
-    -- where no rebuilt submessage waits there is none
+    -- where no rebuilt submessage waits there is None
     none_left : ins_at f.moment f.stream_id (rebuilt_part t.rebuilt 0) 0 ≡ []
     none_left = ins_end f.moment f.stream_id (rebuilt_part t.rebuilt 0) 0 (let z = ap length (none_part t.rebuilt) in omega (arith, z))
 
@@ -169,7 +152,7 @@ module _ (st : State) (v : Inv st) (out d : List ℕ) (x : Start) (session_in_le
         record { agent = refl; out = refl; result = refl; inv = record { few = v.few; low = low; high = high; sound = sound; week = v.week; waits = tt } }
     finishes (stop.Call number task call) false k e =
         record {
-          agent = ap (λ (left : List In). with_tables (agent_of st) (view_of next t) (some (record { session = f.session_id; pending = record { asked = asked_as f number task; left = left }; rest = subs_at f.moment f.stream_id d at }))) none_left;
+          agent = ap (λ (left : List In). with_tables (agent_of st) (view_of next t) (Some (record { session = f.session_id; pending = record { asked = asked_as f number task; left = left }; rest = subs_at f.moment f.stream_id d at }))) none_left;
           out = refl;
           result = refl;
           inv = record { few = v.few; low = low; high = high; sound = sound; week = v.week; waits = record { session_in_lem = session_in_lem; stream_in_lem = stream_in_lem; within = within; reads = reads; left = none_reads; room = e } };
@@ -178,7 +161,7 @@ module _ (st : State) (v : Inv st) (out d : List ℕ) (x : Start) (session_in_le
         record {
           agent = refl;
           out = refl;
-          result = let h = k.0 in ap (λ (b : Bool). step.ran rs (some (call_as (cond b d (rebuilt_part t.rebuilt c)) call))) (ne_eqb c 0 (λ z. omega (arith, z, h)));
+          result = let h = k.0 in ap (λ (b : Bool). step.ran rs (Some (call_as (cond b d (rebuilt_part t.rebuilt c)) call))) (ne_eqb c 0 (λ z. omega (arith, z, h)));
           inv = record { few = v.few; low = low; high = high; sound = sound; week = v.week; waits = record { session_in_lem = session_in_lem; stream_in_lem = stream_in_lem; within = within; reads = reads; left = k.1; room = e } };
         }
 
@@ -217,20 +200,20 @@ long_same p Failed sample = refl
 -- ---- 16 is never answered
 
 module _ (t : Tables) (max : ℕ) (sound : SoundTables SoundStream max t) (timeout next : ℕ) (few : max ≤ 255) (low : 1 ≤ next) (high : next ≤ 255) (hours : List ℕ) (week : week_minutes ≤ length hours) (lent : List ℕ) where
-  abbrev agent_with : Waiting → Agent
+  abbrev agent_with : Option Pending → Agent
   agent_with w = record { max_clients = max; timeout_ms = timeout; next = next; waits = w }
 
-  abbrev state_with : Waiting → State
+  abbrev state_with : Option Pending → State
   state_with w = record { agent = agent_with w; tables = t; hours = hours; lent = lent }
 
-  record_sound_lem : (w : Waiting) → record_sound (agent_with w) ≡ true
+  record_sound_lem : (w : Option Pending) → record_sound (agent_with w) ≡ true
   record_sound_lem w = rw (le-ltb 255 max few, ne_eqb next 0 (λ e. omega arith)) refl
 
-  limits : (id n : ℕ) → id < 256 → limits_of t.sessions t.streams t.objects (length t.held) (length t.parts) t.lengths (length t.rebuilt) max id n ≡ Within
+  limits : (id n : ℕ) → id < 256 → limits_of t.sessions t.streams t.objects (length t.held) (length t.parts) t.lengths (length t.rebuilt) max id n ≡ (Ok tt)
   limits id n h = within_limits SoundStream stream_lasts max (λ s w. sound_limits s w.sound) t sound few id n h
 
-  free : idle_of waiting.Nothing (agent_with waiting.Nothing) ≡ idle.Free
-  free = ap (λ (b : Bool). cond b idle.Free (idle.Refused OverLimit)) (record_sound_lem waiting.Nothing)
+  free : idle_of None (agent_with None) ≡ (Ok tt)
+  free = ap (λ (b : Bool). cond b (Ok tt) (Err OverLimit)) (record_sound_lem None)
 
   -- ---- a datagram
 
@@ -239,10 +222,10 @@ module _ (t : Tables) (max : ℕ) (sound : SoundTables SoundStream max t) (timeo
     moment = moment_of (open_in hours) given
 
     abbrev a : Agent
-    a = agent_with waiting.Nothing
+    a = agent_with None
 
     abbrev st : State
-    st = state_with waiting.Nothing
+    st = state_with None
 
     v : Inv st
     v = record { few = few; low = low; high = high; sound = sound; week = week; waits = tt }
@@ -261,15 +244,15 @@ module _ (t : Tables) (max : ℕ) (sound : SoundTables SoundStream max t) (timeo
     judge_datagram : judge_of t hours d a input.Datagram given 0 room ≡ minute_judged hours d a given room
     unfolding judge_of
     judge_datagram =
-        ap (λ (l : Limits). datagram_judged hours d a l given room) (limits (get_or d 0 0) (get_or d 1 0) first_in)
-        ∙ ap (λ (b : Bool). cond b (cond (ltb (length hours) week_minutes) (judged.Refused OverLimit) (minute_judged hours d a given room)) (judged.Refused OverLimit)) (record_sound_lem waiting.Nothing)
-        ∙ ap (λ (b : Bool). cond b (judged.Refused OverLimit) (minute_judged hours d a given room)) (le-ltb (length hours) week_minutes week)
+        ap (λ (l : Result (Unit {0}) Refusal). datagram_judged hours d a l given room) (limits (get_or d 0 0) (get_or d 1 0) first_in)
+        ∙ ap (λ (b : Bool). cond b (cond (ltb (length hours) week_minutes) (Err OverLimit) (minute_judged hours d a given room)) (Err OverLimit)) (record_sound_lem None)
+        ∙ ap (λ (b : Bool). cond b (Err OverLimit) (minute_judged hours d a given room)) (le-ltb (length hours) week_minutes week)
 
     abbrev Goes : Message → Type 0
     Goes m = Same (did_by hours d lent (processed_by (checked_judged a moment room (checked_of m)) a t out d [])) (begin (agent_of st) out given (reading_of d m))
 
     -- where no answer comes first and no rebuilt submessage waits, all of it is the run
-    performed_is : (x : Start) → x.resumes ≡ resumes.Nothing → x.left_at ≡ 0 → x.left_end ≡ 0
+    performed_is : (x : Start) → x.resumes ≡ None → x.left_at ≡ 0 → x.left_end ≡ 0
         → performed x t d [] ≡ run_at x.frame d (record { next = x.next; at = x.at; wrote = 0; stop = stop.Nothing }) t
     unfolding performed host.resumed_acted work_at work_in joined_replies
     performed_is x a b c = rw (a, b, c, none_part t.rebuilt) refl
@@ -301,7 +284,7 @@ module _ (t : Tables) (max : ℕ) (sound : SoundTables SoundStream max t) (timeo
 
     -- 20, or the datagram's bytes are looked at
     minute_goes : (b : Bool)
-        → Same (did_by hours d lent (processed_by (cond b (checked_judged a moment room (check_of d)) (judged.Refused NoSuchMinute)) a t out d []))
+        → Same (did_by hours d lent (processed_by (cond b (checked_judged a moment room (check_of d)) (Err NoSuchMinute)) a t out d []))
         (cond b (begin (agent_of st) out given (reading_of d (message_of d))) (step.refuse (agent_of st) out 20 0))
     unfolding check_of
     minute_goes true = goes (leb (length d) 4) refl (items_at d 4) refl
@@ -310,36 +293,36 @@ module _ (t : Tables) (max : ℕ) (sound : SoundTables SoundStream max t) (timeo
     datagram_same : Same (step_of st (datagram given d small) out) (step.step (agent_of st) (step.datagram given d) out)
     unfolding step_of process_of step.step reading
     datagram_same =
-        subst (λ (j : Judged). Same (did_by hours d lent (processed_by j a t out d [])) (cond (is_minute given.day given.minute) (begin (agent_of st) out given (reading_of d (message_of d))) (step.refuse (agent_of st) out 20 0)))
+        subst (λ (j : Result (Start × ℕ) Refusal). Same (did_by hours d lent (processed_by j a t out d [])) (cond (is_minute given.day given.minute) (begin (agent_of st) out given (reading_of d (message_of d))) (step.refuse (agent_of st) out 20 0)))
         (sym judge_datagram) (minute_goes (is_minute given.day given.minute))
 
   -- ---- a removal and a sweep
 
-  idle_inv : (t' : Tables) → SoundTables SoundStream max t' → Inv (record { agent = agent_with waiting.Nothing; tables = t'; hours = hours; lent = lent })
+  idle_inv : (t' : Tables) → SoundTables SoundStream max t' → Inv (record { agent = agent_with None; tables = t'; hours = hours; lent = lent })
   idle_inv t' s = record { few = few; low = low; high = high; sound = s; week = week; waits = tt }
 
-  removal_same : (id : ℕ) (small : id < 256) (out : List ℕ) → Same (step_of (state_with waiting.Nothing) (removal id small) out) (step.step (agent_of (state_with waiting.Nothing)) (step.removal id) out)
+  removal_same : (id : ℕ) (small : id < 256) (out : List ℕ) → Same (step_of (state_with None) (removal id small) out) (step.step (agent_of (state_with None)) (step.removal id) out)
   unfolding step_of step.step put_at
   removal_same id small out =
-      subst (λ (i : Idle). Same (removes i) (lists (ltb (length out) 0))) (sym free)
-      (subst (λ (b : Bool). Same (removes idle.Free) (lists b)) (sym (le-ltb (length out) 0 (omega arith)))
+      subst (λ (i : Result (Unit {0}) Refusal). Same (removes i) (lists (ltb (length out) 0))) (sym free)
+      (subst (λ (b : Bool). Same (removes (Ok tt)) (lists b)) (sym (le-ltb (length out) 0 (omega arith)))
       record {
-        agent = ap (λ (u : step.Tables). record { max = max; timeout = timeout; is_open = open_in hours; tables = u; waits = none }) (remove_view t sound next id small);
+        agent = ap (λ (u : step.Tables). record { max = max; timeout = timeout; is_open = open_in hours; tables = u; waits = None }) (remove_view t sound next id small);
         out = refl;
-        result = ap (λ (w : Named). removed_result (removed_as w)) (named_when t.sessions id sound.sessions_need_lem) ∙ live_is (is_free t.sessions id) refl;
+        result = ap (λ (w : Result Bool Refusal). removed_result (removed_as w)) (named_when t.sessions id sound.sessions_need_lem) ∙ live_is (is_free t.sessions id) refl;
         inv = idle_inv (with_sessions t (ended_rows t.sessions id)) (remove_led SoundStream stream_lasts max t sound id small).sound;
       })
     where
-      removes : Idle → Did
-      removes i = record { state = with_rows (state_with waiting.Nothing) (removed_rows i t.sessions id); out = out; result = removed_result (removed_by i t.sessions id) }
+      removes : Result (Unit {0}) Refusal → Did
+      removes i = record { state = with_rows (state_with None) (removed_rows i t.sessions id); out = out; result = removed_result (removed_by i t.sessions id) }
 
       lists : Bool → step.Did
       lists b =
-          cond b (step.refuse (agent_of (state_with waiting.Nothing)) out 13 0)
-          (record { agent = with_locals (agent_of (state_with waiting.Nothing)) (with_id id none (session_in t)); out = put_at out 0 []; result = step.removed (is_live (session_in t id)) })
+          cond b (step.refuse (agent_of (state_with None)) out 13 0)
+          (record { agent = with_locals (agent_of (state_with None)) (with_id id None (session_in t)); out = put_at out 0 []; result = step.removed (is_live (session_in t id)) })
 
-      live_is : (b : Bool) → is_free t.sessions id ≡ b → removed_result (removed_as (cond b named.NotLive named.Live)) ≡ step.removed (is_live (session_in t id))
-      live_is true e = let z : local_of t id ≡ none = rw e refl in sym (ap (λ (x : Option Local). step.removed (is_live x)) (at_in t id small ∙ z))
+      live_is : (b : Bool) → is_free t.sessions id ≡ b → removed_result (removed_as (cond b (Ok false) (Ok true))) ≡ step.removed (is_live (session_in t id))
+      live_is true e = let z : local_of t id ≡ None = rw e refl in sym (ap (λ (x : Option Local). step.removed (is_live x)) (at_in t id small ∙ z))
       live_is false e = sym (ap (λ (x : Option Local). step.removed (is_live x)) (at_in t id small ∙ shown_live t id e))
 
   swept_sound : (now : ℕ) (out : List ℕ) → leb 256 (length t.sessions) ≡ true → ltb (length out) (length (expired_ids t.sessions now timeout)) ≡ false → SoundTables SoundStream max (with_sessions t (swept_rows t.sessions now timeout))
@@ -350,11 +333,11 @@ module _ (t : Tables) (max : ℕ) (sound : SoundTables SoundStream max t) (timeo
       ap (λ (f : Bool). cond f (cond (ltb (length out) (length (expired_ids s now timeout))) s (swept_rows s now timeout)) s) need ∙ ap (λ (b : Bool). cond b s (swept_rows s now timeout)) e in
       subst (λ (rows : List (List ℕ)). SoundTables SoundStream max (with_sessions t rows)) z (sweep_led SoundStream stream_lasts max t sound now timeout out).sound
 
-  sweep_same : (now : ℕ) (out : List ℕ) → Same (step_of (state_with waiting.Nothing) (sweep now) out) (step.step (agent_of (state_with waiting.Nothing)) (step.sweep now) out)
+  sweep_same : (now : ℕ) (out : List ℕ) → Same (step_of (state_with None) (sweep now) out) (step.step (agent_of (state_with None)) (step.sweep now) out)
   unfolding step.step
   sweep_same now out =
-      subst (λ (d : Did). Same d (lists (lapsed_ids timeout now (session_in t)))) (sym (swept_as (state_with waiting.Nothing) now out free need))
-      (subst (λ (is : List ℕ). Same (sweep_to (state_with waiting.Nothing) now (ltb (length out) (length ids)) out) (lists is)) (swept_ids t sound now timeout) (by (ltb (length out) (length ids)) refl))
+      subst (λ (d : Did). Same d (lists (lapsed_ids timeout now (session_in t)))) (sym (swept_as (state_with None) now out free need))
+      (subst (λ (is : List ℕ). Same (sweep_to (state_with None) now (ltb (length out) (length ids)) out) (lists is)) (swept_ids t sound now timeout) (by (ltb (length out) (length ids)) refl))
     where
       need : leb 256 (length t.sessions) ≡ true
       need = le-leb 256 (length t.sessions) sound.sessions_need_lem
@@ -363,18 +346,18 @@ module _ (t : Tables) (max : ℕ) (sound : SoundTables SoundStream max t) (timeo
       ids = expired_ids t.sessions now timeout
 
       lists : List ℕ → step.Did
-      lists is = step.finish (agent_of (state_with waiting.Nothing)) out (with_locals (agent_of (state_with waiting.Nothing)) (λ i. stays timeout now (session_in t i))) is (step.swept is)
+      lists is = step.finish (agent_of (state_with None)) out (with_locals (agent_of (state_with None)) (λ i. stays timeout now (session_in t i))) is (step.swept is)
 
       lists_if : Bool → step.Did
       lists_if b =
-          cond b (step.refuse (agent_of (state_with waiting.Nothing)) out 13 0)
-          (record { agent = with_locals (agent_of (state_with waiting.Nothing)) (λ i. stays timeout now (session_in t i)); out = put_at out 0 ids; result = step.swept ids })
+          cond b (step.refuse (agent_of (state_with None)) out 13 0)
+          (record { agent = with_locals (agent_of (state_with None)) (λ i. stays timeout now (session_in t i)); out = put_at out 0 ids; result = step.swept ids })
 
-      by : (b : Bool) → ltb (length out) (length ids) ≡ b → Same (sweep_to (state_with waiting.Nothing) now b out) (lists_if b)
+      by : (b : Bool) → ltb (length out) (length ids) ≡ b → Same (sweep_to (state_with None) now b out) (lists_if b)
       by true e = record { agent = refl; out = refl; result = refl; inv = idle_inv t sound }
       by false e =
           record {
-            agent = ap (λ (u : step.Tables). record { max = max; timeout = timeout; is_open = open_in hours; tables = u; waits = none }) (swept_view t sound now timeout next);
+            agent = ap (λ (u : step.Tables). record { max = max; timeout = timeout; is_open = open_in hours; tables = u; waits = None }) (swept_view t sound now timeout next);
             out = refl;
             result = refl;
             inv = idle_inv (with_sessions t (swept_rows t.sessions now timeout)) (swept_sound now out need e);
@@ -384,14 +367,14 @@ module _ (t : Tables) (max : ℕ) (sound : SoundTables SoundStream max t) (timeo
 
   module _ (p : Pending) (w : WaitsFor t lent p) where
     abbrev busy : State
-    busy = state_with (waiting.Call p)
+    busy = state_with (Some p)
 
     busy_inv : Inv busy
     busy_inv = record { few = few; low = low; high = high; sound = sound; week = week; waits = w }
 
     module _ (b : BridgeAnswer) (sample out : List ℕ) where
       abbrev c : Agent
-      c = agent_with (waiting.Call p)
+      c = agent_with (Some p)
 
       abbrev x : Start
       x = answer_start c p b (length out)
@@ -411,14 +394,14 @@ module _ (t : Tables) (max : ℕ) (sound : SoundTables SoundStream max t) (timeo
       abbrev waits : step.Open
       waits = record { session = session; pending = record { asked = record { stream = p.stream_id; number = p.number.0; task = task_as p.task }; left = left }; rest = rest }
 
-      abbrev goes_on : Judged
-      goes_on = judged.Goes x (length w.reads.0)
+      abbrev goes_on : Result (Start × ℕ) Refusal
+      goes_on = Ok (x, (length w.reads.0))
 
-      abbrev place : Slot
+      abbrev place : Result (Option ℕ) Refusal
       place = answer_slot p b t.sessions t.streams (length t.held) n
 
-      abbrev rest_as : Judged
-      rest_as = cond (judge.too_long b n) (judged.Refused TooLong) (placed_judged place goes_on)
+      abbrev rest_as : Result (Start × ℕ) Refusal
+      rest_as = cond (judge.too_long b n) (Err TooLong) (placed_judged place goes_on)
 
       -- rebuilt bytes are as they were when the call was handed out
       left_kept_lem : left_kept (rebuilt_part t.rebuilt p.left_end) p ≡ true
@@ -429,29 +412,29 @@ module _ (t : Tables) (max : ℕ) (sound : SoundTables SoundStream max t) (timeo
           ∙ ap (λ (e : Bool). cond e false (is_read (rebuilt_at s p.left_at))) (le-ltb (length s) p.left_at q.within)
           ∙ ap is_read (rebuilt_is s p.left_at q.said q.reads q.none_barred)
 
-      rest_judged_lem : answer_judged lent t.rebuilt c Within p b n place (length out) ≡ rest_as
+      rest_judged_lem : answer_judged lent t.rebuilt c (Ok tt) p b n place (length out) ≡ rest_as
       unfolding count_at
       rest_judged_lem =
-          ap (λ (e : Bool). cond e (cond (left_kept (rebuilt_part t.rebuilt p.left_end) p) judges_rest (judged.Refused OverLimit)) (judged.Refused OverLimit)) (record_sound_lem (waiting.Call p))
-          ∙ ap (λ (e : Bool). cond e judges_rest (judged.Refused OverLimit)) left_kept_lem
-          ∙ ap (λ (e : Bool). cond e (judged.Refused OverLimit) (judges (count_at (judge.header_of p) lent p.at))) (le-ltb (length lent) p.at w.within)
+          ap (λ (e : Bool). cond e (cond (left_kept (rebuilt_part t.rebuilt p.left_end) p) judges_rest (Err OverLimit)) (Err OverLimit)) (record_sound_lem (Some p))
+          ∙ ap (λ (e : Bool). cond e judges_rest (Err OverLimit)) left_kept_lem
+          ∙ ap (λ (e : Bool). cond e (Err OverLimit) (judges (count_at (judge.header_of p) lent p.at))) (le-ltb (length lent) p.at w.within)
           ∙ ap (λ (i : Items). judges (checked_of (under (judge.header_of p) i))) w.reads.1
         where
-          judges : Checked → Judged
+          judges : Result (MessageHeader × ℕ) Refusal → Result (Start × ℕ) Refusal
           judges k = rest_judged c p b n place (length out) k
 
-          judges_rest : Judged
-          judges_rest = cond (ltb (length lent) p.at) (judged.Refused OverLimit) (judges (count_at (judge.header_of p) lent p.at))
+          judges_rest : Result (Start × ℕ) Refusal
+          judges_rest = cond (ltb (length lent) p.at) (Err OverLimit) (judges (count_at (judge.header_of p) lent p.at))
 
-      judge_answer : judge_of t [] lent c (input.Answer b) no_given n (length out) ≡ cond (fits (task_as p.task) (answer_as b [])) rest_as (judged.Refused OutOfTurn)
+      judge_answer : judge_of t [] lent c (input.Answer b) no_given n (length out) ≡ cond (fits (task_as p.task) (answer_as b [])) rest_as (Err OutOfTurn)
       unfolding judge_of
       judge_answer = by (fits (task_as p.task) (answer_as b []))
         where
           by : (e : Bool)
-              → (let x = cond e (turn.Answer p b) (turn.Refused OutOfTurn) in
+              → (let x = cond e (Ok (turn.Answer p b)) (Err OutOfTurn) in
               judged_by [] lent t.rebuilt c (limits_of t.sessions t.streams t.objects (length t.held) (length t.parts) t.lengths (length t.rebuilt) max (session_of lent x) (stream_of lent x)) x no_given n (slot_of x t.sessions t.streams (length t.held) n) (length out))
-              ≡ cond e rest_as (judged.Refused OutOfTurn)
-          by true = ap (λ (l : Limits). answer_judged lent t.rebuilt c l p b n place (length out)) (limits session p.stream_id w.session_in_lem) ∙ rest_judged_lem
+              ≡ cond e rest_as (Err OutOfTurn)
+          by true = ap (λ (l : Result (Unit {0}) Refusal). answer_judged lent t.rebuilt c l p b n place (length out)) (limits session p.stream_id w.session_in_lem) ∙ rest_judged_lem
           by false = refl
 
       -- 14
@@ -480,10 +463,10 @@ module _ (t : Tables) (max : ℕ) (sound : SoundTables SoundStream max t) (timeo
       answer_same : Same (step_of busy (answer b sample) out) (step.step (agent_of busy) (step.answer (answer_as b sample)) out)
       unfolding step_of process_of step.step
       answer_same =
-          subst (λ (j : Judged). Same (judges j) (steps fitting long over)) (sym judge_answer)
-          (subst (λ (e : Bool). Same (judges (cond fitted rest_as (judged.Refused OutOfTurn))) (steps e long over)) (sym (fits_same p.task b sample))
-          (subst (λ (e : Bool). Same (judges (cond fitted rest_as (judged.Refused OutOfTurn))) (steps fitted e over)) (sym (long_same waits.pending.asked b sample))
-          (subst (λ (j : Judged). Same (judges (cond fitted (cond (judge.too_long b n) (judged.Refused TooLong) j) (judged.Refused OutOfTurn))) (steps fitted (judge.too_long b n) over))
+          subst (λ (j : Result (Start × ℕ) Refusal). Same (judges j) (steps fitting long over)) (sym judge_answer)
+          (subst (λ (e : Bool). Same (judges (cond fitted rest_as (Err OutOfTurn))) (steps e long over)) (sym (fits_same p.task b sample))
+          (subst (λ (e : Bool). Same (judges (cond fitted rest_as (Err OutOfTurn))) (steps fitted e over)) (sym (long_same waits.pending.asked b sample))
+          (subst (λ (j : Result (Start × ℕ) Refusal). Same (judges (cond fitted (cond (judge.too_long b n) (Err TooLong) j) (Err OutOfTurn))) (steps fitted (judge.too_long b n) over))
           (sym (held_same max t sound few p w.session_in_lem sample goes_on b left rest next))
           (by fitted (judge.too_long b n) over refl))))
         where
@@ -496,7 +479,7 @@ module _ (t : Tables) (max : ℕ) (sound : SoundTables SoundStream max t) (timeo
           long : Bool
           long = step.too_long waits.pending.asked (answer_as b sample)
 
-          judges : Judged → Did
+          judges : Result (Start × ℕ) Refusal → Did
           judges j = did_by hours lent lent (processed_by j c t out lent sample)
 
           steps : Bool → Bool → Bool → step.Did
@@ -506,7 +489,7 @@ module _ (t : Tables) (max : ℕ) (sound : SoundTables SoundStream max t) (timeo
               (cond o (step.refuse (agent_of busy) out 14 0) (settle (agent_of busy) out (continued max waits (answer_as b sample) (view_of next t)))))
               (step.refuse (agent_of busy) out 15 0)
 
-          by : (e z o : Bool) → over ≡ o → Same (judges (cond e (cond z (judged.Refused TooLong) (cond o (judged.Refused StoreFull) goes_on)) (judged.Refused OutOfTurn))) (steps e z o)
+          by : (e z o : Bool) → over ≡ o → Same (judges (cond e (cond z (Err TooLong) (cond o (Err StoreFull) goes_on)) (Err OutOfTurn))) (steps e z o)
           by true true o h = refuses busy lent out TooLong busy_inv
           by true false true h = refuses busy lent out StoreFull busy_inv
           by true false false h = answer_goes h
@@ -519,16 +502,16 @@ module _ (t : Tables) (max : ℕ) (sound : SoundTables SoundStream max t) (timeo
     busy_same (removal id small) out = record { agent = refl; out = refl; result = refl; inv = busy_inv }
     busy_same (sweep now) out = record { agent = refl; out = refl; result = refl; inv = busy_inv }
 
-  idle_same : (e : Event) (out : List ℕ) → Same (step_of (state_with waiting.Nothing) e out) (step.step (agent_of (state_with waiting.Nothing)) (event_of e) out)
+  idle_same : (e : Event) (out : List ℕ) → Same (step_of (state_with None) e out) (step.step (agent_of (state_with None)) (event_of e) out)
   unfolding step_of process_of judge_of step.step
   idle_same (datagram given bytes small) out = datagram_same given bytes out small
-  idle_same (answer b sample) out = refuses (state_with waiting.Nothing) lent out OutOfTurn (idle_inv t sound)
+  idle_same (answer b sample) out = refuses (state_with None) lent out OutOfTurn (idle_inv t sound)
   idle_same (removal id small) out = removal_same id small out
   idle_same (sweep now) out = sweep_same now out
 
-  pub call_same : (w : Waiting) → Waits t lent w → (e : Event) (out : List ℕ) → Same (step_of (state_with w) e out) (step.step (agent_of (state_with w)) (event_of e) out)
-  call_same waiting.Nothing z e out = idle_same e out
-  call_same (waiting.Call p) z e out = busy_same p z e out
+  pub call_same : (w : Option Pending) → Waits t lent w → (e : Event) (out : List ℕ) → Same (step_of (state_with w) e out) (step.step (agent_of (state_with w)) (event_of e) out)
+  call_same None z e out = idle_same e out
+  call_same (Some p) z e out = busy_same p z e out
 
 -- every call of the host, in every state that calls lead to
 pub step_square : (st : State) → Inv st → (e : Event) (out : List ℕ) → Same (step_of st e out) (step.step (agent_of st) (event_of e) out)
@@ -537,11 +520,11 @@ step_square st v e out = call_same st.tables st.agent.max_clients v.sound st.age
 -- ---- an agent just set up
 
 -- windows that set-up takes, over a store for the week's minutes
-checked_fit : (bytes : ℕ) (ws : List Window) → checkedWindows bytes ws ≡ windows.Fit → (leb week_minutes bytes ≡ true) × (all_fit ws ≡ true)
+checked_fit : (bytes : ℕ) (ws : List Window) → checkedWindows bytes ws ≡ (Ok tt) → (leb week_minutes bytes ≡ true) × (all_fit ws ≡ true)
 unfolding checkedWindows
 checked_fit bytes ws e = by (leb week_minutes bytes) (all_fit ws) e
   where
-    by : (b c : Bool) → cond b (cond c windows.Fit (windows.Refused WindowFault)) (windows.Refused OverLimit) ≡ windows.Fit → (b ≡ true) × (c ≡ true)
+    by : (b c : Bool) → ◌≡◌ {A = Result (Unit {0}) Refusal} (cond b (cond c (Ok tt) (Err WindowFault)) (Err OverLimit)) (Ok tt) → (b ≡ true) × (c ≡ true)
     by true true e = (refl, refl)
     by true false e = let k : ◌≡◌ {A = ℕ} 0 1 = cc in absurd (omega arith)
     by false c e = let k : ◌≡◌ {A = ℕ} 0 1 = cc in absurd (omega arith)
@@ -555,29 +538,29 @@ pub record Empty (t : Tables) (hours : List ℕ) (ws : List Window) (max timeout
   pub agent : agent_of (empty_of t hours ws max a) ≡ empty_agent max timeout (is_open ws)
   pub inv : Inv (empty_of t hours ws max a)
 
-pub empty_square : (t : Tables) (hours : List ℕ) (ws : List Window) (max timeout : ℕ) (a : Agent) → set_up_with t hours ws max timeout ≡ ready.Ready a → Empty t hours ws max timeout a
+pub empty_square : (t : Tables) (hours : List ℕ) (ws : List Window) (max timeout : ℕ) (a : Agent) → set_up_with t hours ws max timeout ≡ Ok a → Empty t hours ws max timeout a
 empty_square t hours ws max timeout a e = by made refl (checkedWindows (length hours) ws) refl e
   where
-    made : SetUp
+    made : Result ℕ Refusal
     made = set_up_of (length t.sessions) (length t.streams) (length t.objects) (length t.held) (length t.parts) (length t.lengths) (length t.rebuilt) max
 
-    states : SetUp → Agent → State
+    states : Result ℕ Refusal → Agent → State
     states r a = record { agent = a; tables = set_up_tables r t; hours = leaves r (kept_hours ws hours) hours; lent = [] }
 
-    by : (r : SetUp) → made ≡ r → (w : Windows) → checkedWindows (length hours) ws ≡ w → set_up_as (set_up_by r w) max timeout ≡ ready.Ready a → Empty t hours ws max timeout a
-    by (setup.Refused r) q w k z = let k : ◌≡◌ {A = ℕ} 0 1 = cc in let n : ⊥ = omega arith in absurd n
-    by (setup.Ready next) q (windows.Refused r) k z = let k : ◌≡◌ {A = ℕ} 0 1 = cc in let n : ⊥ = omega arith in absurd n
-    by (setup.Ready next) q windows.Fit k z =
-        let fresh : Agent = record { max_clients = max; timeout_ms = timeout; next = next; waits = waiting.Nothing } in
+    by : (r : Result ℕ Refusal) → made ≡ r → (w : Result (Unit {0}) Refusal) → checkedWindows (length hours) ws ≡ w → set_up_as (set_up_by r w) max timeout ≡ Ok a → Empty t hours ws max timeout a
+    by (Err r) q w k z = let k : ◌≡◌ {A = ℕ} 0 1 = cc in let n : ⊥ = omega arith in absurd n
+    by (Ok next) q (Err r) k z = let k : ◌≡◌ {A = ℕ} 0 1 = cc in let n : ⊥ = omega arith in absurd n
+    by (Ok next) q (Ok tt) k z =
+        let fresh : Agent = record { max_clients = max; timeout_ms = timeout; next = next; waits = None } in
         let same : fresh ≡ a = cc in
         let first = first_is t.sessions t.streams t.objects (length t.held) (length t.parts) (length t.lengths) (length t.rebuilt) max next q in
         let kept = long t.sessions t.streams t.objects (length t.held) (length t.parts) (length t.lengths) (length t.rebuilt) max next q in
         let fit = checked_fit (length hours) ws k in
         let week = leb-true week_minutes (length hours) fit.0 in
-        let st : states (setup.Ready next) fresh ≡ empty_of t hours ws max a = λ i. states (set_up_by (sym q i) (sym k i)) (same i) in
+        let st : states (Ok next) fresh ≡ empty_of t hours ws max a = λ i. states (set_up_by (sym q i) (sym k i)) (same i) in
         record {
           agent = sym (ap agent_of st)
-              ∙ ap (λ (u : step.Tables). record { max = max; timeout = timeout; is_open = open_in (kept_hours ws hours); tables = u; waits = none }) (empty_view t max timeout (is_open ws) next first)
+              ∙ ap (λ (u : step.Tables). record { max = max; timeout = timeout; is_open = open_in (kept_hours ws hours); tables = u; waits = None }) (empty_view t max timeout (is_open ws) next first)
               ∙ ap (empty_agent max timeout) (opens_same ws hours fit.1 week);
           inv = subst Inv st (record { few = kept.clients; low = omega (arith, first); high = omega (arith, first); sound = (ready_led SoundStream stream_lasts max t max next kept kept.held_long kept.parts_long kept.lengths_long).sound; week = kept_week_long ws hours week; waits = tt });
         }

@@ -3,7 +3,6 @@
 use Prim.Native.Nat.{ℕ, ◌<◌}
 use mathlib.Core.Path.{◌≡◌, refl, sym, ap, ◌∙◌, subst}
 use mathlib.Core.Bool.{Bool, true, false, cond, true≢false}
-use mathlib.Core.Option.{Option, none, some}
 use mathlib.Core.List.{List, [], ◌∷◌}
 use native.Mathlib.Omega.{arith}
 use borrow.Author.Tests.{lt-ltb, le-ltb}
@@ -21,8 +20,6 @@ use Rattle.sessions.specs.Calls.{SoundStream, SoundTables}
 use Rattle.sessions.specs.Dependants.{has_dependant}
 use Rattle.sessions.specs.ObjectList.{rank_of, in_order}
 use Rattle.sessions.specs.TakeDown.{Alone, TakenDown}
-use Rattle.sessions.specs.declared.object_list.Listed.TheVariants.{Numbers, Refused}
-use Rattle.sessions.specs.declared.table.Named.TheVariants.{Live, NotLive}
 use Rattle.sessions.proofs.SoundStreams.{stream_lasts}
 use Rattle.sessions.proofs.Steps.{objects_named_lem}
 use Rattle.sessions.proofs.session_objects.Laws.{list_is}
@@ -32,10 +29,10 @@ use Rattle.agent.specs.Local.{entry_handle, handle_at}
 use Rattle.agent.specs.RulesObjects.{says, drops, create_unless, on_create, delete_found, on_delete}
 use Rattle.agent.specs.TakeDown.{Stays, TakesDown, numbers_shown, Shows, Right}
 use Rattle.agent.specs.Whole.{Hosted, session_in, set_up_with}
-use Rattle.agent.specs.declared.agent.AgentSetUp.TheVariants.{Ready}
 use Rattle.agent.specs.declared.state.Agent.{Agent}
 use Rattle.agent.proofs.Promised.{state_after, inv_after}
 use Rattle.agent.proofs.OwnRank.{own_rank}
+use Rattle.std.specs.Prelude.{Err, Ok, Option, None, Some}
 
 -- ---- what has a dependant stays
 
@@ -44,8 +41,8 @@ stays stream number l e = by (find_in l.objects number) refl e
   where
     by : (x : Option Entry) → find_in l.objects number ≡ x → has_dependant l.objects x ≡ true
         → (on_delete stream number l ≡ says stream number ErrIncompatible l) × ((kind : ObjectKind) (parent : ℕ) (body : List ℕ) → on_create kind stream number parent body l ≡ says stream number ErrIncompatible l)
-    by none q e = absurd (true≢false (sym e))
-    by (some x) q e = (
+    by None q e = absurd (true≢false (sym e))
+    by (Some x) q e = (
       ap (λ (o : Option Entry). delete_found stream number o l) q ∙ ap (λ (b : Bool). cond b (says stream number ErrIncompatible l) (drops stream number x.handle l)) e,
       λ kind parent body. rw q (ap (λ (b : Bool). create_unless b kind stream number parent body l) e),
     )
@@ -63,7 +60,7 @@ unfolding TakenDown TakesDown
 takes_along stream [] es d = d
 takes_along stream (n ∷ ns) es d = (λ l e. delete_alone stream n l (subst (λ (xs : List Entry). Alone xs n) (sym e) d.0), takes_along stream ns (drop_in es n) d.1)
 
-right : (l : Local) → Distinct (object_numbers l.objects) → ((n : ℕ) (e : Entry) → find_in l.objects n ≡ some e → rank_of e.kind ≡ e.kind) → Right l
+right : (l : Local) → Distinct (object_numbers l.objects) → ((n : ℕ) (e : Entry) → find_in l.objects n ≡ Some e → rank_of e.kind ≡ e.kind) → Right l
 right l d own =
     let es = l.objects in
     record { once = each_once es d; ordered = ordered es d; own_rank = own; dependants_first = dependants_first es d; takes_down = λ stream. takes_along stream (in_order es) es (taken_down es d) }
@@ -71,36 +68,36 @@ right l d own =
 -- ---- what the listing shows
 
 module _ {most : ℕ} (t : Tables) (sound : SoundTables SoundStream most t) (id : ℕ) (id< : id < 256) where
-  -- the answer of a session, or of none
+  -- the answer of a session, or of None
   shows : (out : List ℕ) → Shows t id out (numbers_shown (session_in t id))
   shows out = rw (lt-ltb id 256 id<) (by (is_free t.sessions id) refl)
     where
-      named : (b : Bool) → is_free t.sessions id ≡ b → objects_named t.sessions (length t.objects) id ≡ cond b NotLive Live
-      named b e = objects_named_lem SoundStream stream_lasts most t sound id id< ∙ ap (λ (b : Bool). cond b NotLive Live) e
+      named : (b : Bool) → is_free t.sessions id ≡ b → objects_named t.sessions (length t.objects) id ≡ cond b (Ok false) (Ok true)
+      named b e = objects_named_lem SoundStream stream_lasts most t sound id id< ∙ ap (λ (b : Bool). cond b (Ok false) (Ok true)) e
 
-      by : (b : Bool) → is_free t.sessions id ≡ b → Shows t id out (numbers_shown (cond b none (some (session_shown id (table_part t id)))))
+      by : (b : Bool) → is_free t.sessions id ≡ b → Shows t id out (numbers_shown (cond b None (Some (session_shown id (table_part t id)))))
       by true e =
-          let p = list_is t.sessions t.objects id out NotLive (named true e) in
+          let p = list_is t.sessions t.objects id out (Ok false) (named true e) in
           record {
-            answers = sym p.0 ∙ sym (ap (λ (b : Bool). cond b (Refused OutputTooShort) (Numbers 0)) (le-ltb (length out) 0 (omega arith)));
+            answers = sym p.0 ∙ sym (ap (λ (b : Bool). cond b (Err OutputTooShort) (Ok 0)) (le-ltb (length out) 0 (omega arith)));
             output = sym p.1 ∙ sym (sym (put_fits out 0 [] (omega arith)).1 ∙ put_nothing out 0);
           }
-      by false e = let p = list_is t.sessions t.objects id out Live (named false e) in record { answers = sym p.0; output = sym p.1 }
+      by false e = let p = list_is t.sessions t.objects id out (Ok true) (named false e) in record { answers = sym p.0; output = sym p.1 }
 
   -- a live session's objects have different numbers
-  differ : (l : Local) → session_in t id ≡ some l → Distinct (object_numbers l.objects)
+  differ : (l : Local) → session_in t id ≡ Some l → Distinct (object_numbers l.objects)
   differ l = rw (lt-ltb id 256 id<) (by (is_free t.sessions id))
     where
-      by : (b : Bool) → cond b none (some (session_shown id (table_part t id))) ≡ some l → Distinct (object_numbers l.objects)
+      by : (b : Bool) → cond b None (Some (session_shown id (table_part t id))) ≡ Some l → Distinct (object_numbers l.objects)
       by true e = absurd (none_some e)
       by false e = subst (λ (x : Option Local). DistinctIn x) e (sound.each id id<).objects_differ
         where
           DistinctIn : Option Local → Type 0
-          DistinctIn none = Unit {0}
-          DistinctIn (some m) = Distinct (object_numbers m.objects)
+          DistinctIn None = Unit {0}
+          DistinctIn (Some m) = Distinct (object_numbers m.objects)
 
 -- whatever stood in the tables that set-up accepts
-module _ (t : Tables) (hours : List ℕ) (ws : List Window) (max timeout : ℕ) (a : Agent) (made : set_up_with t hours ws max timeout ≡ Ready a) (H : List Hosted) where
+module _ (t : Tables) (hours : List ℕ) (ws : List Window) (max timeout : ℕ) (a : Agent) (made : set_up_with t hours ws max timeout ≡ Ok a) (H : List Hosted) where
   abbrev now : Tables
   now = (state_after t hours ws max timeout a made H).tables
 
@@ -109,5 +106,5 @@ module _ (t : Tables) (hours : List ℕ) (ws : List Window) (max timeout : ℕ) 
   listing_shows id id< out = shows now (inv_after t hours ws max timeout a made H).sound id id< out
 
   -- with each of its objects once, dependants first
-  pub listing_right : (id : ℕ) → id < 256 → (l : Local) → session_in now id ≡ some l → Right l
+  pub listing_right : (id : ℕ) → id < 256 → (l : Local) → session_in now id ≡ Some l → Right l
   listing_right id id< l e = right l (differ now (inv_after t hours ws max timeout a made H).sound id id< l e) (own_rank t hours ws max timeout a made H id l e)

@@ -9,11 +9,10 @@ use lib.Dec.{eqb, leb, ltb}
 use lib.ListN.{length, length-append}
 use Rattle.codec.specs.declared.submessages.ObjectNumber.{ObjectNumber}
 use Rattle.codec.specs.declared.submessages.StatusCode.{StatusCode}
-use Rattle.codec.specs.declared.submessages.StatusCode.TheVariants.{Ok, ErrUnknownRef, ErrInvalidData}
+use Rattle.codec.specs.declared.submessages.StatusCode.TheVariants as status
+use Rattle.codec.specs.declared.submessages.StatusCode.TheVariants.{ErrUnknownRef, ErrInvalidData}
 use Rattle.sessions.specs.Table.{got_of}
 use Rattle.sessions.specs.View.{Tables}
-use Rattle.sessions.specs.declared.table.Got.{Got}
-use Rattle.sessions.specs.declared.table.Got.TheVariants as got
 use Rattle.agent.specs.Step.{joined_replies}
 use Rattle.moves.specs.Calls.{fits}
 use Rattle.moves.specs.Proxy.{answer_as, task_as}
@@ -21,12 +20,9 @@ use Rattle.moves.specs.Answers.{says_of}
 use Rattle.agent.specs.Answered.{says_fits, sequence_of, says_bytes, answered_by}
 use Rattle.agent.specs.Judge.{judge_of}
 use Rattle.agent.specs.declared.state.Given.{Given}
-use Rattle.agent.specs.Host.{begun_by, performed, resumes_fit, answer_most, first_most, ids_at, asks_in, unbound, brings, bounded, roomy, needed_of, Leaves, finished_of, refuse, finish, processed_by, process_of}
+use Rattle.agent.specs.Host.{begun_by, performed, resumes_fit, answer_most, first_most, ids_at, asks_in, brings, bounded, roomy, needed_of, Leaves, finished_of, refuse, finish, processed_by, process_of}
 use Rattle.moves.specs.declared.answers.Says.TheVariants as says
 use Rattle.agent.specs.declared.judge.Input.{Input}
-use Rattle.agent.specs.declared.judge.Judged.{Judged}
-use Rattle.agent.specs.declared.judge.Resumes.{Resumes}
-use Rattle.agent.specs.declared.judge.Resumes.TheVariants as resumes
 use Rattle.agent.specs.declared.judge.Start.{Start}
 use Rattle.moves.specs.declared.proxy.BridgeAnswer.{BridgeAnswer}
 use Rattle.moves.specs.declared.proxy.BridgeAnswer.TheVariants.{Created, Done, Sample, NoSample, Failed}
@@ -41,11 +37,14 @@ use Rattle.agent.proofs.Performed.{performed_told}
 use Rattle.agent.proofs.Most.{performed_most}
 use Rattle.agent.proofs.answers.Laws.{sample_fits}
 use Rattle.agent.proofs.Acknacks.{ids_few}
-use Rattle.agent.proofs.Sparse.{brings_none, bound_brings}
+use Rattle.agent.proofs.Sparse.{brings_none}
 use Rattle.codec.specs.Bytes.{put_at}
 use Rattle.agent.specs.Run.{put_replies, Turned}
 use Rattle.agent.proofs.Judged.{AnswerFits, Sound}
 use Rattle.codec.specs.declared.refusals.Refusal.TheVariants.{OutputTooShort}
+use Rattle.std.specs.Prelude.{Err, None, Ok, Option, Result, Some}
+use Rattle.sessions.specs.declared.table.ClientSession.{ClientSession}
+use Rattle.codec.specs.declared.refusals.Refusal.{Refusal}
 
 -- ---- the bound, as it is computed
 
@@ -91,13 +90,13 @@ module _ (f : Frame) (sequence : ℕ) (bytes : List ℕ) (number : ObjectNumber)
   -- an answer that fits its call: DATA to a sample, else a STATUS
   says_most : (task : Task) (a : BridgeAnswer) → says_fits (says_of task a) f.stream_id (length bytes) ≡ true → fits (task_as task) (answer_as a []) ≡ true
       → length (says_bytes (says_of task a) f sequence number bytes) ≤ answer_most a (length bytes)
-  says_most (Creating kind parent) (Created h) e m = status_most Ok
+  says_most (Creating kind parent) (Created h) e m = status_most status.Ok
   says_most (Creating kind parent) Done e m = status_most ErrInvalidData
   says_most (Creating kind parent) Sample e m = absurd (no_fit m)
   says_most (Creating kind parent) NoSample e m = status_most ErrInvalidData
   says_most (Creating kind parent) Failed e m = status_most ErrInvalidData
   says_most Writing (Created h) e m = status_most ErrInvalidData
-  says_most Writing Done e m = status_most Ok
+  says_most Writing Done e m = status_most status.Ok
   says_most Writing Sample e m = absurd (no_fit m)
   says_most Writing NoSample e m = status_most ErrInvalidData
   says_most Writing Failed e m = status_most ErrInvalidData
@@ -106,27 +105,27 @@ module _ (f : Frame) (sequence : ℕ) (bytes : List ℕ) (number : ObjectNumber)
   says_most Reading Sample e m =
       rw (le-leb (length bytes) 65533 (sample_fits f.stream_id (length bytes) e))
       (let l = data_long f.session_id f.stream_id sequence number.0 bytes in omega (arith, l))
-  says_most Reading NoSample e m = status_most Ok
+  says_most Reading NoSample e m = status_most status.Ok
   says_most Reading Failed e m = status_most ErrInvalidData
   says_most Deleting (Created h) e m = status_most ErrUnknownRef
-  says_most Deleting Done e m = status_most Ok
+  says_most Deleting Done e m = status_most status.Ok
   says_most Deleting Sample e m = absurd (no_fit m)
   says_most Deleting NoSample e m = status_most ErrUnknownRef
   says_most Deleting Failed e m = status_most ErrUnknownRef
 
-begun_most : (x : Resumes) (s y : List (List ℕ)) (f : Frame) (bytes : List ℕ) → resumes_fit x f.stream_id (length bytes) ≡ true → AnswerFits x
+begun_most : (x : Option (ObjectNumber × Task × BridgeAnswer)) (s y : List (List ℕ)) (f : Frame) (bytes : List ℕ) → resumes_fit x f.stream_id (length bytes) ≡ true → AnswerFits x
     → length (joined_replies (begun_by x s y f bytes)) ≤ first_most x (length bytes)
 unfolding joined_replies
-begun_most resumes.Nothing s y f bytes e m = omega arith
-begun_most (resumes.Answer number task a) s y f bytes e m = go (got_of s f.session_id)
+begun_most None s y f bytes e m = omega arith
+begun_most (Some (number, task, a)) s y f bytes e m = go (got_of s f.session_id)
   where
-    go : (g : Got) → length (joined_replies (answered_by g f (sequence_of s y f) bytes number task a)) ≤ answer_most a (length bytes)
-    go (got.Session z) =
+    go : (g : Result (Option ClientSession) Refusal) → length (joined_replies (answered_by g f (sequence_of s y f) bytes number task a)) ≤ answer_most a (length bytes)
+    go (Ok (Some z)) =
         let l = length-append (says_bytes (says_of task a) f (sequence_of s y f) number bytes) [] in
         let k = says_most f (sequence_of s y f) bytes number task a e m in
         omega (arith, l, k)
-    go got.NotLive = omega arith
-    go (got.Refused r) = omega arith
+    go (Ok None) = omega arith
+    go (Err r) = omega arith
 
 module _ (t : Tables) (d sample : List ℕ) (x : Start) (n room : ℕ) (k : Sound t d (length sample) room x n) where
   abbrev first : ℕ
@@ -192,11 +191,6 @@ module _ (t : Tables) (d sample : List ℕ) (x : Start) (n room : ℕ) (k : Soun
       go true e = le-ltb room 0 (omega arith) ∙ sym (le-ltb room w (roomy_most e))
       go false e = refl
 
--- what has a bound is roomy by it
-pub by_bound : (room : ℕ) (x : Start) (s : List (List ℕ)) (n : ℕ) (d : List ℕ) (sample wrote : ℕ) → unbound x d ≡ false
-    → ltb room (needed_of (roomy room x s n d sample) wrote) ≡ ltb room wrote → ltb room wrote ≡ ltb room (needed_of (bounded room x n d sample) wrote)
-by_bound room x s n d sample wrote u e = sym e ∙ ap (λ (b : Bool). ltb room (needed_of (cond b false (bounded room x n d sample)) wrote)) (bound_brings x s d u)
-
 -- ---- what the call leaves
 
 module _ (a : Agent) (t : Tables) (out d sample : List ℕ) (x : Start) where
@@ -226,9 +220,9 @@ module _ (a : Agent) (t : Tables) (out d sample : List ℕ) (x : Start) where
   pub finish_sent : x.frame.room ≡ length out → ltb (length out) y.ran.wrote ≡ false → went (put_replies x.frame.room out 0 y.replies) ≡ finish a t out x y
   finish_sent long e = ap went (sent_out long e) ∙ finish_by false e
 
-pub process_by : (a : Agent) (t : Tables) (hours out d sample : List ℕ) (i : Input) (given : Given) (j : Judged) → judge_of t hours d a i given (length sample) (length out) ≡ j → processed_by j a t out d sample ≡ process_of a t hours out d sample i given
+pub process_by : (a : Agent) (t : Tables) (hours out d sample : List ℕ) (i : Input) (given : Given) (j : Result (Start × ℕ) Refusal) → judge_of t hours d a i given (length sample) (length out) ≡ j → processed_by j a t out d sample ≡ process_of a t hours out d sample i given
 unfolding process_of
-process_by a t hours out d sample i given j e = ap (λ (k : Judged). processed_by k a t out d sample) (sym e)
+process_by a t hours out d sample i given j e = ap (λ (k : Result (Start × ℕ) Refusal). processed_by k a t out d sample) (sym e)
 
 -- all that a call leaves, the replies apart
 pub same_leaves : (x y : Leaves) → x ≡ y

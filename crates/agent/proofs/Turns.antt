@@ -10,11 +10,7 @@ use lib.ListN.{get_or, length}
 use Rattle.codec.specs.Submessages.{id_of}
 use Rattle.codec.specs.Reading.{read_at, part_of}
 use Rattle.codec.specs.Rebuilt.{rebuilt_of}
-use Rattle.codec.specs.declared.rebuilt.Rebuilt.{Rebuilt}
-use Rattle.codec.specs.declared.rebuilt.Rebuilt.TheVariants as rebuilt
 use Rattle.codec.specs.declared.layouts.Cursor.{Cursor}
-use Rattle.codec.specs.declared.layouts.Parsed.{Parsed}
-use Rattle.codec.specs.declared.layouts.Parsed.TheVariants as parsed
 use Rattle.codec.specs.declared.layouts.Span.{Span}
 use Rattle.codec.specs.declared.submessages.AcknackPayload.{AcknackPayload}
 use Rattle.codec.specs.declared.submessages.HeartbeatPayload.{HeartbeatPayload}
@@ -37,17 +33,11 @@ use Rattle.sessions.specs.declared.objects.Taken.{Taken as Removed}
 use Rattle.sessions.specs.declared.objects.Taken.TheVariants as removed
 use Rattle.sessions.specs.declared.objects.Object.{Object}
 use Rattle.sessions.specs.declared.objects.Handle.{Handle}
-use Rattle.sessions.specs.declared.objects.ObjectHandle.{ObjectHandle}
-use Rattle.sessions.specs.declared.objects.ObjectHandle.TheVariants.{Bridged, Implicit}
-use Rattle.sessions.specs.declared.opening.Created.{Created}
-use Rattle.sessions.specs.declared.opening.Created.TheVariants as created
 use Rattle.sessions.specs.declared.room.Room.{Room}
 use Rattle.sessions.specs.declared.room.Room.TheVariants as room
 use Rattle.sessions.specs.declared.session_streams.StreamNamed.{StreamNamed}
 use Rattle.sessions.specs.declared.session_streams.StreamNamed.TheVariants as stream
 use Rattle.sessions.specs.declared.session_streams.StreamRead.{StreamRead}
-use Rattle.sessions.specs.declared.table.Named.{Named}
-use Rattle.sessions.specs.declared.table.Named.TheVariants as named
 use Rattle.sessions.proofs.AnyRows.{Numbered, read_number}
 use Rattle.streams.specs.Places.{is_full}
 use Rattle.streams.specs.declared.state.StreamState.{StreamState}
@@ -66,8 +56,6 @@ use Rattle.moves.specs.declared.handle.Opening.{Opening}
 use Rattle.moves.specs.declared.handle.Opening.TheVariants.{Client, Fragment, Other, Unread}
 use Rattle.moves.specs.declared.moves.Move.{Move}
 use Rattle.moves.specs.declared.moves.Move.TheVariants.{Greets, Status, Acknack, Repeats, Calls, Silent}
-use Rattle.moves.specs.declared.names.Names.{Names}
-use Rattle.moves.specs.declared.names.Names.TheVariants as names
 use Rattle.agent.specs.declared.turn.Frame.{Frame}
 use Rattle.agent.specs.declared.turn.Ran.{Ran}
 use Rattle.agent.specs.declared.turn.Taken.{Taken}
@@ -75,6 +63,8 @@ use Rattle.agent.proofs.Acknacks.{read_says_lem}
 use Rattle.agent.proofs.MoveBytes.{move_long_lem}
 use Rattle.agent.proofs.Repeated.{repeats_long}
 use Rattle.agent.proofs.Loops.{Loop, whole_end, whole_more, whole_told}
+use Rattle.std.specs.Prelude.{Err, None, Ok, Option, Result, Some}
+use Rattle.codec.specs.declared.refusals.Refusal.{Refusal}
 
 -- ---- only an ACKNACK on a stream other than 0 is answered by held messages
 
@@ -90,15 +80,15 @@ repeating Silent = 0
 abbrev Brief : Move → Type 0
 Brief m = repeating m ≡ 0
 
-topic_brief : (number : ObjectNumber) (parent : ℕ) (names : Names) (h : ObjectHandle) → Brief (topic_by number parent names h)
-topic_brief number parent (names.Both name type) (Bridged p) = refl
-topic_brief number parent names.Unread (Bridged p) = refl
-topic_brief number parent names Implicit = refl
+topic_brief : (number : ObjectNumber) (parent : ℕ) (names : Option (Span × Span)) (h : Option Handle) → Brief (topic_by number parent names h)
+topic_brief number parent (Some (name, type)) (Some p) = refl
+topic_brief number parent None (Some p) = refl
+topic_brief number parent names None = refl
 
-endpoint_brief : (number : ObjectNumber) (k parent : ℕ) (h t : ObjectHandle) → Brief (endpoint_for number k parent h t)
-endpoint_brief number k parent (Bridged p) (Bridged t) = refl
-endpoint_brief number k parent (Bridged p) Implicit = refl
-endpoint_brief number k parent Implicit t = refl
+endpoint_brief : (number : ObjectNumber) (k parent : ℕ) (h t : Option Handle) → Brief (endpoint_for number k parent h t)
+endpoint_brief number k parent (Some p) (Some t) = refl
+endpoint_brief number k parent (Some p) None = refl
+endpoint_brief number k parent None t = refl
 
 fetched_brief : (s : List (List ℕ)) (o : List Object) (id : ℕ) (number : ObjectNumber) (k parent : ℕ) → Brief (endpoint_in s o id number k parent)
 fetched_brief s o id number k parent =
@@ -112,51 +102,51 @@ create_brief kind.Subscriber s o d id number parent body = refl
 create_brief kind.DataWriter s o d id number parent body = fetched_brief s o id number 5 parent
 create_brief kind.DataReader s o d id number parent body = fetched_brief s o id number 6 parent
 
-room_brief : (x : Room) (s : List (List ℕ)) (o : List Object) (d : List ℕ) (id : ℕ) (number : ObjectNumber) (k : ObjectKind) (parent : ℕ) (body : Span) → Brief (room_move x s o d id number k parent body)
-room_brief room.Free s o d id number k parent body = create_brief k s o d id number parent body
-room_brief room.Full s o d id number k parent body = refl
-room_brief room.Depended s o d id number k parent body = refl
-room_brief room.NotLive s o d id number k parent body = refl
-room_brief (room.Refused r) s o d id number k parent body = refl
+room_brief : (x : Result Room Refusal) (s : List (List ℕ)) (o : List Object) (d : List ℕ) (id : ℕ) (number : ObjectNumber) (k : ObjectKind) (parent : ℕ) (body : Span) → Brief (room_move x s o d id number k parent body)
+room_brief (Ok room.Free) s o d id number k parent body = create_brief k s o d id number parent body
+room_brief (Ok room.Full) s o d id number k parent body = refl
+room_brief (Ok room.Depended) s o d id number k parent body = refl
+room_brief (Ok room.NotLive) s o d id number k parent body = refl
+room_brief (Err r) s o d id number k parent body = refl
 
-dropped_brief : (number : ObjectNumber) (h : ObjectHandle) → Brief (dropped_move number h)
-dropped_brief number (Bridged h) = refl
-dropped_brief number Implicit = refl
+dropped_brief : (number : ObjectNumber) (h : Option Handle) → Brief (dropped_move number h)
+dropped_brief number (Some h) = refl
+dropped_brief number None = refl
 
-delete_brief : (number : ObjectNumber) (x : Removed) → Brief (delete_move number x)
-delete_brief number (removed.Gone o) = dropped_brief number (handle_of o)
-delete_brief number removed.Depended = refl
-delete_brief number removed.Nothing = refl
-delete_brief number (removed.Refused r) = refl
+delete_brief : (number : ObjectNumber) (x : Result Removed Refusal) → Brief (delete_move number x)
+delete_brief number (Ok (removed.Gone o)) = dropped_brief number (handle_of o)
+delete_brief number (Ok removed.Depended) = refl
+delete_brief number (Ok removed.Nothing) = refl
+delete_brief number (Err r) = refl
 
-write_brief : (is_open : Bool) (number : ObjectNumber) (body : Span) (h : ObjectHandle) → Brief (write_by is_open number body h)
-write_brief true number body (Bridged w) = refl
-write_brief false number body (Bridged w) = refl
-write_brief is_open number body Implicit = refl
+write_brief : (is_open : Bool) (number : ObjectNumber) (body : Span) (h : Option Handle) → Brief (write_by is_open number body h)
+write_brief true number body (Some w) = refl
+write_brief false number body (Some w) = refl
+write_brief is_open number body None = refl
 
 full_brief : (b : Bool) (number : ObjectNumber) (h : Handle) → Brief (cond b (Status number ErrResources) (read_call number h))
 full_brief true number h = refl
 full_brief false number h = refl
 
-read_on_brief : (a : StreamNamed) (s : StreamState) (number : ObjectNumber) (h : Handle) → Brief (read_on a s number h)
-read_on_brief stream.Open s number h = full_brief (is_full s) number h
-read_on_brief stream.NotOpen s number h = refl
-read_on_brief stream.NotLive s number h = refl
-read_on_brief (stream.Refused r) s number h = refl
+read_on_brief : (a : Result StreamNamed Refusal) (s : StreamState) (number : ObjectNumber) (h : Handle) → Brief (read_on a s number h)
+read_on_brief (Ok stream.Open) s number h = full_brief (is_full s) number h
+read_on_brief (Ok stream.NotOpen) s number h = refl
+read_on_brief (Ok stream.NotLive) s number h = refl
+read_on_brief (Err r) s number h = refl
 
 read_from_brief : (b : Bool) (r : StreamRead) (number : ObjectNumber) (h : Handle) → Brief (cond b (read_call number h) (read_on r.answer r.state number h))
 read_from_brief true r number h = refl
 read_from_brief false r number h = read_on_brief r.answer r.state number h
 
-read_brief : (number : ObjectNumber) (h : ObjectHandle) (s x : List (List ℕ)) (id n : ℕ) → Brief (read_move number h s x id n)
-read_brief number (Bridged h) s x id n = read_from_brief (eqb n 0) (read_of (opened_sessions s x id n) (opened_rows s x id n) id n) number h
-read_brief number Implicit s x id n = refl
+read_brief : (number : ObjectNumber) (h : Option Handle) (s x : List (List ℕ)) (id n : ℕ) → Brief (read_move number h s x id n)
+read_brief number (Some h) s x id n = read_from_brief (eqb n 0) (read_of (opened_sessions s x id n) (opened_rows s x id n) id n) number h
+read_brief number None s x id n = refl
 
-heartbeat_brief : (a : StreamNamed) (s : StreamState) (p : HeartbeatPayload) → Brief (heartbeat_on a s p)
-heartbeat_brief stream.Open s p = refl
-heartbeat_brief stream.NotOpen s p = refl
-heartbeat_brief stream.NotLive s p = refl
-heartbeat_brief (stream.Refused r) s p = refl
+heartbeat_brief : (a : Result StreamNamed Refusal) (s : StreamState) (p : HeartbeatPayload) → Brief (heartbeat_on a s p)
+heartbeat_brief (Ok stream.Open) s p = refl
+heartbeat_brief (Ok stream.NotOpen) s p = refl
+heartbeat_brief (Ok stream.NotLive) s p = refl
+heartbeat_brief (Err r) s p = refl
 
 -- at most one list, and none on stream 0
 abbrev Few : ℕ → ℕ → Move → Type 0
@@ -169,11 +159,11 @@ unless_few : (b : Bool) (n : ℕ) (p : AcknackPayload) → (n ≡ 0 → b ≡ tr
 unless_few true n p h = brief_few n 1 Silent refl
 unless_few false n p h = (omega arith, λ z. let e = h z in let q : ◌≡◌ {A = ℕ} 0 1 = cc in absurd (omega arith))
 
-acknack_few : (n : ℕ) (a : StreamNamed) (s : StreamState) (p : AcknackPayload) → Numbered n a s → Few n 1 (acknack_on a s p)
-acknack_few n stream.Open s p own = unless_few (eqb s.stream_id 0) n p (λ z. eq-eqb s.stream_id 0 (own ∙ z))
-acknack_few n stream.NotOpen s p own = brief_few n 1 Silent refl
-acknack_few n stream.NotLive s p own = brief_few n 1 Silent refl
-acknack_few n (stream.Refused r) s p own = brief_few n 1 Silent refl
+acknack_few : (n : ℕ) (a : Result StreamNamed Refusal) (s : StreamState) (p : AcknackPayload) → Numbered n a s → Few n 1 (acknack_on a s p)
+acknack_few n (Ok stream.Open) s p own = unless_few (eqb s.stream_id 0) n p (λ z. eq-eqb s.stream_id 0 (own ∙ z))
+acknack_few n (Ok stream.NotOpen) s p own = brief_few n 1 Silent refl
+acknack_few n (Ok stream.NotLive) s p own = brief_few n 1 Silent refl
+acknack_few n (Err r) s p own = brief_few n 1 Silent refl
 
 stream_few : (hears : Bool) (first second n : ℕ) (r : StreamRead) → Numbered n r.answer r.state → Few n (cond (not hears) 1 0) (stream_move hears first second r)
 stream_few true first second n r own =
@@ -245,13 +235,13 @@ replies_most f s x h (Calls number task call) = let a = none_long in omega (arit
 replies_most f s x h Silent = let a = none_long in omega (arith, a)
 
 -- CREATE_CLIENT's STATUS
-pub greeting_replied : (c : Created) → bytes_of (opened (id_opened c)) ≡ greeting_bytes c
-greeting_replied (created.Opened id next) = refl
-greeting_replied (created.Refused r) = refl
+pub greeting_replied : (c : Result (ℕ × ℕ) Refusal) → bytes_of (opened (id_opened c)) ≡ greeting_bytes c
+greeting_replied (Ok (id, next)) = refl
+greeting_replied (Err r) = refl
 
-greeting_long : (c : Created) → length (greeting_bytes c) ≡ 11
-greeting_long (created.Opened id next) = move_long_lem 0 0 (greeting (created.Opened id next))
-greeting_long (created.Refused r) = move_long_lem 0 0 (greeting (created.Refused r))
+greeting_long : (c : Result (ℕ × ℕ) Refusal) → length (greeting_bytes c) ≡ 11
+greeting_long (Ok (id, next)) = move_long_lem 0 0 (greeting (Ok (id, next)))
+greeting_long (Err r) = move_long_lem 0 0 (greeting (Err r))
 
 -- what a submessage leaves: the place behind it, and its replies counted
 pub record Leaves (f : Frame) (r : Ran) (at : ℕ) (x : Ran) (rs : List Reply) : Type 0 where
@@ -285,25 +275,25 @@ opening_short f t r key at most =
     record { short = omega (arith, a, b, n); zeroth = λ _. omega (arith, a, b, n) }
 
 module _ (f : Frame) (t : Rows) (h d : List ℕ) (r : Ran) (took : Taken) where
-  abbrev left : Named → Acted
+  abbrev left : Result Bool Refusal → Acted
   left n = delivered n f t h d r took
 
-  pub delivered_leaves : (n : Named) → Leaves f r took.at (left n).ran (left n).replies
-  delivered_leaves named.Live = record { place = refl; told = refl }
-  delivered_leaves named.NotLive = passed_leaves f r took.at
-  delivered_leaves (named.Refused x) = passed_leaves f r took.at
+  pub delivered_leaves : (n : Result Bool Refusal) → Leaves f r took.at (left n).ran (left n).replies
+  delivered_leaves (Ok true) = record { place = refl; told = refl }
+  delivered_leaves (Ok false) = passed_leaves f r took.at
+  delivered_leaves (Err x) = passed_leaves f r took.at
 
-  delivered_short : (n : Named) → Short f (lists_of took.asked) (left n).replies
-  delivered_short named.Live =
+  delivered_short : (n : Result Bool Refusal) → Short f (lists_of took.asked) (left n).replies
+  delivered_short (Ok true) =
       let u = touched_in f t in
       let q = took.asked in
       let m = handled_move f.moment.is_open q u d f.session_id f.stream_id took.body in
-      let a = replies_most f (left named.Live).rows.sessions (left named.Live).rows.streams h m in
+      let a = replies_most f (left (Ok true)).rows.sessions (left (Ok true)).rows.streams h m in
       let few = handled_few f.moment.is_open q.group q u d f.session_id f.stream_id took.body in
       let b = few.0 in
       record { short = omega (arith, a, b); zeroth = λ z. let c = few.1 z in omega (arith, a, c) }
-  delivered_short named.NotLive = none_short f _
-  delivered_short (named.Refused x) = none_short f _
+  delivered_short (Ok false) = none_short f _
+  delivered_short (Err x) = none_short f _
 
   inside_leaves : (o : Opening) → Leaves f r took.at (inside_by o f t h d r took).ran (inside_by o f t h d r took).replies
   inside_leaves Other = delivered_leaves (named_of t.sessions f.session_id)
@@ -323,23 +313,23 @@ pub insides : (f : Frame) (t : Rows) (h s : List ℕ) (r : Ran) → r.at < lengt
 unfolding inside_turned
 insides f t h s r l = go (read_at s r.at) refl
   where
-    go : (q : Parsed) → read_at s r.at ≡ q → Inside f s r (inside_by (taken_of q (length s)).asked.opening f t h s r (taken_of q (length s)))
-    go (parsed.Sub m x c) e =
-        let k = inside_leaves f t h s r (taken_of (parsed.Sub m x c) (length s)) (asks_of m).opening in
+    go : (q : Result (Submessage × Span × Cursor) Refusal) → read_at s r.at ≡ q → Inside f s r (inside_by (taken_of q (length s)).asked.opening f t h s r (taken_of q (length s)))
+    go (Ok (m, x, c)) e =
+        let k = inside_leaves f t h s r (taken_of (Ok (m, x, c)) (length s)) (asks_of m).opening in
         let said = read_says_lem s r.at m x c e in
         let p = k.place in
         let n = said.next in
         let w = said.within in
         record { ahead = omega (arith, n, p); within = omega (arith, w, p); told = k.told }
-    go (parsed.Refused x) e =
+    go (Err x) e =
         let k = passed_leaves f r (length s) in
         record { ahead = l; within = omega arith; told = k.told }
 
 -- where one is read, the run goes on behind it
-pub inside_at : (f : Frame) (t : Rows) (h s : List ℕ) (r : Ran) (m : Submessage) (x : Span) (c : Cursor) → read_at s r.at ≡ parsed.Sub m x c
+pub inside_at : (f : Frame) (t : Rows) (h s : List ℕ) (r : Ran) (m : Submessage) (x : Span) (c : Cursor) → read_at s r.at ≡ Ok (m, x, c)
     → (inside_turned f t h s r).ran.at ≡ c.at
 unfolding inside_turned
-inside_at f t h s r m x c e = rw e (inside_leaves f t h s r (taken_of (parsed.Sub m x c) (length s)) (asks_of m).opening).place
+inside_at f t h s r m x c e = rw e (inside_leaves f t h s r (taken_of (Ok (m, x, c)) (length s)) (asks_of m).opening).place
 
 -- ---- all rebuilt submessages
 
@@ -406,9 +396,9 @@ module _ (f : Frame) (h s : List ℕ) where
 
 -- ---- a FRAGMENT
 
-pub left_leaves : (o : Rebuilt) (f : Frame) (h s : List ℕ) (n : ℕ) (r : Ran) (at : ℕ) (t : Rows) → Leaves f r at (left_by o f h s n r at t).ran (left_by o f h s n r at t).replies
-left_leaves (rebuilt.Subs k) f h s n r at t = record { place = refl; told = work_told f h s (entered_ran r) t }
-left_leaves (rebuilt.Refused x) f h s n r at t = passed_leaves f r at
+pub left_leaves : (o : Result ℕ Refusal) (f : Frame) (h s : List ℕ) (n : ℕ) (r : Ran) (at : ℕ) (t : Rows) → Leaves f r at (left_by o f h s n r at t).ran (left_by o f h s n r at t).replies
+left_leaves (Ok k) f h s n r at t = record { place = refl; told = work_told f h s (entered_ran r) t }
+left_leaves (Err x) f h s n r at t = passed_leaves f r at
 
 module _ (f : Frame) (t : Tables) (d : List ℕ) (r : Ran) (took : Taken) where
   pub fragment_leaves : Leaves f r took.at (fragment_turned f t d r took).ran (fragment_turned f t d r took).replies
@@ -439,16 +429,16 @@ module _ (f : Frame) (t : Tables) (d : List ℕ) (r : Ran) (took : Taken) where
   other_bound = delivered_short f (rows_of t) t.held d r took (named_of t.sessions f.session_id)
 
 sub_short : (f : Frame) (t : Tables) (d : List ℕ) (r : Ran) (m : Submessage) (x : Span) (c : Cursor) → one_of 0x0F (id_of m) ≡ 0
-    → let took = taken_of (parsed.Sub m x c) (length d) in Short f (lists_of (asks_of m)) (sub_turned (asks_of m).opening f t d r took).replies
-sub_short f t d r (sub.CreateClient p) x c e = opening_bound f t d r (taken_of (parsed.Sub (sub.CreateClient p) x c) (length d))
-sub_short f t d r (sub.Create p) x c e = other_bound f t d r (taken_of (parsed.Sub (sub.Create p) x c) (length d))
-sub_short f t d r (sub.Delete p) x c e = other_bound f t d r (taken_of (parsed.Sub (sub.Delete p) x c) (length d))
-sub_short f t d r (sub.Status p) x c e = other_bound f t d r (taken_of (parsed.Sub (sub.Status p) x c) (length d))
-sub_short f t d r (sub.WriteData p) x c e = other_bound f t d r (taken_of (parsed.Sub (sub.WriteData p) x c) (length d))
-sub_short f t d r (sub.ReadData p) x c e = other_bound f t d r (taken_of (parsed.Sub (sub.ReadData p) x c) (length d))
-sub_short f t d r (sub.Data p) x c e = other_bound f t d r (taken_of (parsed.Sub (sub.Data p) x c) (length d))
-sub_short f t d r (sub.Heartbeat p) x c e = other_bound f t d r (taken_of (parsed.Sub (sub.Heartbeat p) x c) (length d))
-sub_short f t d r (sub.Acknack p) x c e = other_bound f t d r (taken_of (parsed.Sub (sub.Acknack p) x c) (length d))
+    → let took = taken_of (Ok (m, x, c)) (length d) in Short f (lists_of (asks_of m)) (sub_turned (asks_of m).opening f t d r took).replies
+sub_short f t d r (sub.CreateClient p) x c e = opening_bound f t d r (taken_of (Ok ((sub.CreateClient p), x, c)) (length d))
+sub_short f t d r (sub.Create p) x c e = other_bound f t d r (taken_of (Ok ((sub.Create p), x, c)) (length d))
+sub_short f t d r (sub.Delete p) x c e = other_bound f t d r (taken_of (Ok ((sub.Delete p), x, c)) (length d))
+sub_short f t d r (sub.Status p) x c e = other_bound f t d r (taken_of (Ok ((sub.Status p), x, c)) (length d))
+sub_short f t d r (sub.WriteData p) x c e = other_bound f t d r (taken_of (Ok ((sub.WriteData p), x, c)) (length d))
+sub_short f t d r (sub.ReadData p) x c e = other_bound f t d r (taken_of (Ok ((sub.ReadData p), x, c)) (length d))
+sub_short f t d r (sub.Data p) x c e = other_bound f t d r (taken_of (Ok ((sub.Data p), x, c)) (length d))
+sub_short f t d r (sub.Heartbeat p) x c e = other_bound f t d r (taken_of (Ok ((sub.Heartbeat p), x, c)) (length d))
+sub_short f t d r (sub.Acknack p) x c e = other_bound f t d r (taken_of (Ok ((sub.Acknack p), x, c)) (length d))
 sub_short f t d r (sub.Fragment p) x c e = absurd (omega (arith, e))
 
 -- ---- a turn, where the datagram isn't at its end
@@ -465,28 +455,28 @@ pub turns : (f : Frame) (t : Tables) (d : List ℕ) (r : Ran) → r.at < length 
 unfolding turned
 turns f t d r h = go (read_at d r.at) refl
   where
-    go : (q : Parsed) → read_at d r.at ≡ q → Turns f d r (turned_by q f t d r)
-    go (parsed.Sub m x c) e =
-        let l = sub_leaves f t d r (taken_of (parsed.Sub m x c) (length d)) (asks_of m).opening in
+    go : (q : Result (Submessage × Span × Cursor) Refusal) → read_at d r.at ≡ q → Turns f d r (turned_by q f t d r)
+    go (Ok (m, x, c)) e =
+        let l = sub_leaves f t d r (taken_of (Ok (m, x, c)) (length d)) (asks_of m).opening in
         let k = read_says_lem d r.at m x c e in
         let p = l.place in
         let n = k.next in
         let w = k.within in
-        let b : one_of 0x0F (get_or d r.at 0) ≡ 0 → Short f (lists_of (asks_of m)) (turned_by (parsed.Sub m x c) f t d r).replies = λ z. sub_short f t d r m x c (ap (one_of 0x0F) (sym k.own) ∙ z) in
+        let b : one_of 0x0F (get_or d r.at 0) ≡ 0 → Short f (lists_of (asks_of m)) (turned_by (Ok (m, x, c)) f t d r).replies = λ z. sub_short f t d r m x c (ap (one_of 0x0F) (sym k.own) ∙ z) in
         record {
           ahead = omega (arith, n, p);
           within = omega (arith, w, p);
           told = l.told;
-          short = λ z. subst (λ (most : ℕ). length (joined_replies (turned_by (parsed.Sub m x c) f t d r).replies) ≤ 12 + 16384 * most) (lists_own m ∙ ap (one_of 0x0E) (sym k.own)) (b z).short;
+          short = λ z. subst (λ (most : ℕ). length (joined_replies (turned_by (Ok (m, x, c)) f t d r).replies) ≤ 12 + 16384 * most) (lists_own m ∙ ap (one_of 0x0E) (sym k.own)) (b z).short;
           zeroth = λ z. (b z).zeroth;
         }
-    go (parsed.Refused x) e =
+    go (Err x) e =
         let l = passed_leaves f r (length d) in
         let b = none_short f (one_of 0x0E (get_or d r.at 0)) in
         record { ahead = h; within = omega arith; told = l.told; short = λ _. b.short; zeroth = λ _. b.zeroth }
 
 -- where a submessage is read, the run goes on behind it
-pub turned_at : (f : Frame) (t : Tables) (d : List ℕ) (r : Ran) (m : Submessage) (x : Span) (c : Cursor) → read_at d r.at ≡ parsed.Sub m x c
+pub turned_at : (f : Frame) (t : Tables) (d : List ℕ) (r : Ran) (m : Submessage) (x : Span) (c : Cursor) → read_at d r.at ≡ Ok (m, x, c)
     → (turned f t d r).ran.at ≡ c.at
 unfolding turned
-turned_at f t d r m x c e = rw e (sub_leaves f t d r (taken_of (parsed.Sub m x c) (length d)) (asks_of m).opening).place
+turned_at f t d r m x c e = rw e (sub_leaves f t d r (taken_of (Ok (m, x, c)) (length d)) (asks_of m).opening).place

@@ -14,12 +14,12 @@ use Rattle.agent.specs.Step as step
 use Rattle.agent.specs.Claim as lists
 use Rattle.agent.specs.Whole as whole
 use Rattle.agent.specs.Whole.{State, agent_of, event_of, Hosted, set_up_with}
-use Rattle.agent.specs.declared.agent.AgentSetUp.TheVariants.{Ready}
 use Rattle.agent.specs.declared.state.Agent.{Agent}
 use Rattle.agent.proofs.InStep as abstract
 use Rattle.agent.proofs.SquareStep.{Inv, step_square, empty_square}
+use Rattle.std.specs.Prelude.{Ok}
 
-module _ (t : Tables) (hours : List ℕ) (ws : List Window) (max timeout : ℕ) (a : Agent) (made : set_up_with t hours ws max timeout ≡ Ready a) where
+module _ (t : Tables) (hours : List ℕ) (ws : List Window) (max timeout : ℕ) (a : Agent) (made : set_up_with t hours ws max timeout ≡ Ok a) where
   abbrev R : iso.Rules
   R = rules (is_open ws) timeout
 

@@ -14,14 +14,14 @@ use Rattle.codec.specs.Reading.{Item, Items, items, stopped, before, onward, pay
 use Rattle.codec.specs.Refusals.{number_of}
 use Rattle.codec.specs.Submessages.{kind_of, code_of}
 use Rattle.codec.specs.declared.header.MessageHeader.{MessageHeader}
-use Rattle.codec.specs.declared.header.SubmessageHeaderRead.TheVariants as head
-use Rattle.codec.specs.declared.layouts.Parsed.{Parsed}
-use Rattle.codec.specs.declared.layouts.Parsed.TheVariants.{Sub, Refused}
 use Rattle.codec.specs.declared.refusals.Refusal.TheVariants.{BufferTooShort}
-use Rattle.codec.specs.declared.submessages.CodeRead.{CodeRead}
-use Rattle.codec.specs.declared.submessages.CodeRead.TheVariants as code
-use Rattle.codec.specs.declared.submessages.KindRead.{KindRead}
-use Rattle.codec.specs.declared.submessages.KindRead.TheVariants as kind
+use Rattle.std.specs.Prelude.{Err, Ok, Result}
+use Rattle.codec.specs.declared.layouts.Cursor.{Cursor}
+use Rattle.codec.specs.declared.submessages.ObjectKind.{ObjectKind}
+use Rattle.codec.specs.declared.refusals.Refusal.{Refusal}
+use Rattle.codec.specs.declared.layouts.Span.{Span}
+use Rattle.codec.specs.declared.submessages.StatusCode.{StatusCode}
+use Rattle.codec.specs.declared.submessages.Submessage.{Submessage}
 
 pub record OfWire (number : ℕ) : Type 0 where
   pub least : 1 ≤ number
@@ -33,17 +33,17 @@ either C false x y p q = q
 
 -- ---- one submessage
 
-abbrev InParsed : Parsed → Type 0
-InParsed (Sub m x c) = Unit {0}
-InParsed (Refused r) = OfWire (number_of r)
+abbrev InParsed : Result (Submessage × Span × Cursor) Refusal → Type 0
+InParsed (Ok (m, x, c)) = Unit {0}
+InParsed (Err r) = OfWire (number_of r)
 
-abbrev InKind : KindRead → Type 0
-InKind (kind.Kind k) = Unit {0}
-InKind (kind.Refused r) = OfWire (number_of r)
+abbrev InKind : Result ObjectKind Refusal → Type 0
+InKind (Ok k) = Unit {0}
+InKind (Err r) = OfWire (number_of r)
 
-abbrev InCode : CodeRead → Type 0
-InCode (code.Code k) = Unit {0}
-InCode (code.Refused r) = OfWire (number_of r)
+abbrev InCode : Result StatusCode Refusal → Type 0
+InCode (Ok k) = Unit {0}
+InCode (Err r) = OfWire (number_of r)
 
 kind_wire : (b : ℕ) → InKind (kind_of b)
 unfolding kind_of
@@ -58,13 +58,13 @@ code_wire b =
     (either InCode (eqb b 4) _ _ tt (record { least = omega arith; most = omega arith })))))
 
 module _ (s : List ℕ) where
-  create_wire : (p len : ℕ) (k : KindRead) → InKind k → InParsed (create_of s p len k)
-  create_wire p len (kind.Kind k) h = tt
-  create_wire p len (kind.Refused r) h = h
+  create_wire : (p len : ℕ) (k : Result ObjectKind Refusal) → InKind k → InParsed (create_of s p len k)
+  create_wire p len (Ok k) h = tt
+  create_wire p len (Err r) h = h
 
-  status_wire : (p len : ℕ) (k : CodeRead) → InCode k → InParsed (status_of s p len k)
-  status_wire p len (code.Code k) h = tt
-  status_wire p len (code.Refused r) h = h
+  status_wire : (p len : ℕ) (k : Result StatusCode Refusal) → InCode k → InParsed (status_of s p len k)
+  status_wire p len (Ok k) h = tt
+  status_wire p len (Err r) h = h
 
   layout_wire : (id p len : ℕ) → InParsed (layout_at s id p len)
   unfolding layout_at create_at status_at
@@ -93,7 +93,7 @@ module _ (s : List ℕ) where
   unfolding read_at sub_header_read
   read_wire at = by (ltb (length s) (at + 4))
     where
-      by : (b : Bool) → InParsed (behind s at (cond b (head.Refused BufferTooShort) (head.Header (sub_header_of s at))))
+      by : (b : Bool) → InParsed (behind s at (cond b (Err BufferTooShort) (Ok (sub_header_of s at))))
       by true = record { least = omega arith; most = omega arith }
       by false = payload_wire (sub_header_of s at).submessage_id (at + 4) (sub_header_of s at).length
 
@@ -107,9 +107,9 @@ module _ (s : List ℕ) where
   before_wire x (items xs) h = tt
   before_wire x (stopped r) h = h
 
-  onward_wire : (q : Parsed) (go : ℕ → Items) → InParsed q → ((at : ℕ) → InItems (go at)) → InItems (onward q go)
-  onward_wire (Sub m x c) go h k = before_wire (record { says = m; span = x }) (go c.at) (k c.at)
-  onward_wire (Refused r) go h k = h
+  onward_wire : (q : Result (Submessage × Span × Cursor) Refusal) (go : ℕ → Items) → InParsed q → ((at : ℕ) → InItems (go at)) → InItems (onward q go)
+  onward_wire (Ok (m, x, c)) go h k = before_wire (record { says = m; span = x }) (go c.at) (k c.at)
+  onward_wire (Err r) go h k = h
 
   items_wire : (left at : ℕ) → InItems (items_in left s at)
   unfolding items_in

@@ -1,6 +1,5 @@
 -- What a datagram brings to a session, or to the table of sessions.
-use Rattle.std.specs.Prelude.{ℕ, Bool, List, map}
-use Rattle.std.proofs.Math.Option.{Option, none, some}
+use Rattle.std.specs.Prelude.{ℕ, Bool, List, map, Option, None, Some}
 use Rattle.codec.specs.Answers.{Answer as Read, gives, refused_as}
 use Rattle.codec.specs.Grammar.{Said, reading}
 use Rattle.codec.specs.declared.header.MessageHeader.{MessageHeader}
@@ -56,8 +55,8 @@ message_from moment h xs = record { header = h.session_id; subs = map (sub_of mo
 
 -- none: "stopped by 1 to 5"
 abbrev pub parsed_as : Moment → Read (MessageHeader × List Said) → Option (Message Opening In)
-parsed_as moment (gives m) = some (message_from moment m.0 m.1)
-parsed_as moment (refused_as number byte) = none
+parsed_as moment (gives m) = Some (message_from moment m.0 m.1)
+parsed_as moment (refused_as number byte) = None
 
 abbrev pub parse : (ℕ → ℕ → Bool) → Datagram → Option (Message Opening In)
 parse is_open d = parsed_as (moment_of is_open d.given) (reading d.bytes)

@@ -1,6 +1,5 @@
 -- The agent as `isolation` speaks of one: the host's calls, and an answer's replies by session.
-use Rattle.std.specs.Prelude.{◌≡◌, ℕ, ◌≤◌, Bool, List, [], ◌∷◌, ◌++◌, map, length}
-use Rattle.std.proofs.Math.Option.{Option, none, some}
+use Rattle.std.specs.Prelude.{◌≡◌, ℕ, ◌≤◌, Bool, List, [], ◌∷◌, ◌++◌, map, length, Option, None, Some}
 use Rattle.codec.specs.Bytes.{put_at}
 use Rattle.isolation.specs.Rules as isolation
 use Rattle.isolation.specs.Claim as claim
@@ -27,15 +26,15 @@ module _ (is_open : ℕ → ℕ → Bool) (max timeout : ℕ) where
 
   -- the session of the call handed out is that of the call then open
   abbrev pub asked_of : Option Open → Option Call → Option (isolation.Asked (rules is_open timeout))
-  asked_of none c = none
-  asked_of (some w) none = none
-  asked_of (some w) (some c) = some (record { tag = 0; session = w.session; call = c })
+  asked_of None c = None
+  asked_of (Some w) None = None
+  asked_of (Some w) (Some c) = Some (record { tag = 0; session = w.session; call = c })
 
   abbrev pub result_of : Option Open → Result → isolation.Result (rules is_open timeout)
   result_of w (refused number byte) = isolation.refused number
   result_of w (ran rs c) = isolation.ran (map out_of rs) (asked_of w c)
-  result_of w (removed b) = isolation.ran [] none
-  result_of w (swept ids) = isolation.ran [] none
+  result_of w (removed b) = isolation.ran [] None
+  result_of w (swept ids) = isolation.ran [] None
 
   abbrev pub agent : claim.Agent (rules is_open timeout)
   agent = record {

@@ -1,29 +1,6 @@
 -- What a call is tried on no output with: the records of the lent stores that it may change are copied, and put back behind it.
-use Rattle.std.specs.Prelude.{ℕ, zero, suc, ◌+◌, ◌-◌, ◌*◌, cond, List, ltb, get_or, set, take, replicate}
-use Rattle.codec.specs.Bytes.{put_bytes}
+use Rattle.std.specs.Prelude.{ℕ, zero, suc, ◌+◌, ◌-◌, ◌*◌, cond, List, ltb, get_or, set, take, drop, ◌++◌}
 use Rattle.sessions.specs.declared.sending.Stretch.{Stretch}
-use Rattle.agent.specs.declared.dry.SessionCopy.{SessionCopy}
-use Rattle.agent.specs.declared.dry.StreamCopy.{StreamCopy}
-use Rattle.agent.specs.declared.dry.BufferCopy.{BufferCopy}
-
--- a row, as it is copied
-abbrev pub session_copy : List ℕ → SessionCopy
-session_copy row = record { 0 = row }
-
-abbrev pub session_back : SessionCopy → List ℕ
-session_back c = c.0
-
-abbrev pub no_session : SessionCopy
-no_session = session_copy (replicate 8 0)
-
-abbrev pub stream_copy : List ℕ → StreamCopy
-stream_copy row = record { 0 = row }
-
-abbrev pub stream_back : StreamCopy → List ℕ
-stream_back c = c.0
-
-abbrev pub no_stream : StreamCopy
-no_stream = stream_copy (replicate 35 0)
 
 abbrev pub same : {A : Type 0} → A → A
 same x = x
@@ -49,13 +26,12 @@ unfoldable pub restored : {A B : Type 0} → (B → A) → B → (ℕ → ℕ) �
 restored back none spot zero from to = to
 restored back none spot (suc k) from to = set (restored back none spot k from to) (spot k) (back (get_or from k none))
 
--- a part of a store of bytes is at most 32,768 of them: it is copied to the start of so many, and the first n of them go back; so are the lengths of
--- fragments, at most 64
-abbrev pub buffer_copy : List ℕ → BufferCopy
-buffer_copy bytes = record { 0 = put_bytes (replicate 32768 0) 0 bytes }
+-- n entries from a place on are kept at the start of a line, and go back from there
+abbrev pub kept_in : {A : Type 0} → List A → List A → ℕ → ℕ → List A
+kept_in line store first n = take n (drop first store) ++ drop n line
 
-abbrev pub buffer_back : BufferCopy → ℕ → List ℕ
-buffer_back c n = take n c.0
+abbrev pub back_in : {A : Type 0} → List A → List A → ℕ → ℕ → List A
+back_in store line first n = take first store ++ (take n line ++ drop (first + n) store)
 
 -- where rebuilt bytes stand in what is lent for them
 abbrev pub rebuilt_place : Stretch

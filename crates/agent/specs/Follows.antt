@@ -1,6 +1,5 @@
 -- The promise of document 02's W1, said of the two objects: which call a CREATE of a DataWriter or DataReader hands out, and when it hands out none.
-use Rattle.std.specs.Prelude.{ℕ, ◌≡◌, false, List}
-use Rattle.std.proofs.Math.Option.{some}
+use Rattle.std.specs.Prelude.{ℕ, ◌≡◌, false, List, Some}
 use Rattle.codec.specs.Submessages.{kind_byte}
 use Rattle.codec.specs.declared.submessages.ObjectKind.{ObjectKind}
 use Rattle.codec.specs.declared.submessages.ObjectKind.TheVariants.{Participant, Topic, DataWriter, DataReader}
@@ -14,13 +13,13 @@ use Rattle.agent.specs.RulesObjects.{says, asks, on_create}
 -- "the Topic that its parent number names, and the Participant that this Topic's parent names", both "held with that kind", and their handles
 pub record Follows (es : List Entry) (parent participantHandle topicHandle : ℕ) : Type 0 where
   pub topic : Entry
-  pub topic_named : find_in es parent ≡ some topic
+  pub topic_named : find_in es parent ≡ Some topic
   pub topic_kind : topic.kind ≡ kind_byte Topic
-  pub topic_handle : topic.handle ≡ some topicHandle
+  pub topic_handle : topic.handle ≡ Some topicHandle
   pub participant : Entry
-  pub participant_named : find_in es topic.parent ≡ some participant
+  pub participant_named : find_in es topic.parent ≡ Some participant
   pub participant_kind : participant.kind ≡ kind_byte Participant
-  pub participant_handle : participant.handle ≡ some participantHandle
+  pub participant_handle : participant.handle ≡ Some participantHandle
 
 -- Within the object limit, and where nothing depends on an object of that number (W3), the call has the handles of these two; "If either isn't held with that kind, the answer is ERR_INVALID_DATA without a call."
 abbrev pub MadeBy : ObjectKind → (ℕ → ℕ → Call) → Type 0

@@ -1,9 +1,8 @@
 -- W6's promise on fragments, over the rules of one session: "fragments rebuild their payload in any order, however often they come, and not before all are there".
-use Rattle.std.specs.Prelude.{ℕ, suc, ◌<◌, ◌≤◌, ◌≡◌, ◌≢◌, ◌⊎◌, Bool, false, cond, List, [], ◌∷◌, ◌++◌, get_or, length}
+use Rattle.std.specs.Prelude.{ℕ, suc, ◌<◌, ◌≤◌, ◌≡◌, ◌≢◌, ◌⊎◌, Bool, false, cond, List, [], ◌∷◌, ◌++◌, get_or, length, Err}
 use Rattle.codec.specs.Cutting.{bodies, joined}
 use Rattle.codec.specs.Inserts.{Slot, free, holds, came, AllCame}
 use Rattle.codec.specs.Rebuilt.{rebuilt_of, rebuilt_reading}
-use Rattle.codec.specs.declared.rebuilt.Rebuilt.TheVariants as rebuilt
 use Rattle.codec.specs.declared.refusals.Refusal.{Refusal}
 use Rattle.codec.specs.declared.submessages.Submessage.{Submessage}
 use Rattle.codec.specs.declared.submessages.Submessage.TheVariants.{CreateClient, Create, Delete, Status, WriteData, ReadData, Data, Heartbeat, Acknack, Fragment}
@@ -97,7 +96,7 @@ pub record RebuildsRight (bs : List (List ℕ)) (payload : List ℕ) (st : Fragm
   -- so the next payload finds the store empty, whatever the rebuilt submessages do
   pub emptied : (k : ℕ) (moment : Moment) (stream : ℕ) → Completes bs nrs k → (leaves (handle l (fragment_of bs k moment stream))).store ≡ empty_store
   -- "On any of these no rebuilt submessage takes effect, none is answered"
-  pub refused : (k : ℕ) (moment : Moment) (stream : ℕ) → Completes bs nrs k → (r : Refusal) → rebuilt_of payload ≡ rebuilt.Refused r
+  pub refused : (k : ℕ) (moment : Moment) (stream : ℕ) → Completes bs nrs k → (r : Refusal) → rebuilt_of payload ≡ Err r
       → handle l (fragment_of bs k moment stream) ≡ done (with_store (touched moment.time l) empty_store) []
 
 -- for every payload, by its bodies; and by its cut, of any size above 0

@@ -1,55 +1,32 @@
 -- The host's calls over the lent tables: what the contracts of the entry points are equal to. That of the listing cites sessions' `list_of` and `list_out`, that of the first open minute hours' `first_open_of`.
-use Rattle.std.specs.Prelude.{ℕ, zero, suc, ◌+◌, ◌-◌, ◌*◌, ◌/◌, Bool, true, false, cond, not, List, [], ◌++◌, eqb, leb, ltb, get_or, length}
+use Rattle.std.specs.Prelude.{ℕ, zero, suc, ◌≡◌, ◌≤◌, ◌+◌, ◌-◌, ◌*◌, ◌/◌, Bool, true, false, cond, not, List, [], ◌++◌, eqb, leb, ltb, get_or, length, Err, None, Ok, Option, Result, Some}
 use Rattle.codec.specs.Bytes.{word_at, put_at}
-use Rattle.codec.specs.declared.bytes.Written.{Written}
-use Rattle.codec.specs.declared.bytes.Written.TheVariants as written
 use Rattle.codec.specs.declared.refusals.Refusal.{Refusal}
 use Rattle.codec.specs.declared.refusals.Refusal.TheVariants.{OutOfTurn, OverLimit, OutputTooShort}
-use Rattle.codec.specs.declared.submessages.StatusCode.TheVariants.{Ok}
+use Rattle.codec.specs.declared.submessages.StatusCode.TheVariants as status
 use Rattle.sessions.specs.Table.{session_at, got_of, named_of, ended_rows}
 use Rattle.sessions.specs.Sweep.{evicted_of, evicted_out, evicted_rows}
 use Rattle.sessions.specs.View.{Tables}
 use Rattle.codec.specs.declared.submessages.ObjectNumber.{ObjectNumber}
 use Rattle.sessions.specs.declared.objects.Object.{Object}
 use Rattle.hours.specs.Windows.{Window, checked_of}
-use Rattle.hours.specs.declared.windows.Windows.{Windows}
-use Rattle.hours.specs.declared.windows.Windows.TheVariants as windows
 use Rattle.sessions.specs.Setup.{set_up_of}
-use Rattle.sessions.specs.declared.setup.SetUp.{SetUp}
-use Rattle.sessions.specs.declared.setup.SetUp.TheVariants as setup
-use Rattle.sessions.specs.declared.table.Got.{Got}
-use Rattle.sessions.specs.declared.table.Got.TheVariants as got
-use Rattle.sessions.specs.declared.table.Named.{Named}
-use Rattle.sessions.specs.declared.table.Named.TheVariants as named
 use Rattle.agent.specs.Step.{Reply, joined_replies}
 use Rattle.moves.specs.Rows.{Rows, rows, no_object}
 use Rattle.agent.specs.Run.{Turned, Acted, before, run_at, work_at, left_acted, with_acted}
 use Rattle.moves.specs.Answers.{keeps_of, says_of}
-use Rattle.agent.specs.Lent.{lent, rows_of, rebuilt_part}
+use Rattle.agent.specs.Lent.{lent, rows_of, with_rows, rebuilt_part}
 use Rattle.agent.specs.Answered.{says_fits, sequence_of, says_bytes, answered_by, answered_sessions, answered_objects, answered_streams, answered_held}
 use Rattle.agent.specs.Judge.{judge_of, record_sound}
-use Rattle.agent.specs.declared.agent.AgentSetUp.{AgentSetUp}
-use Rattle.agent.specs.declared.agent.AgentSetUp.TheVariants as ready
-use Rattle.agent.specs.declared.agent.Idle.{Idle}
-use Rattle.agent.specs.declared.agent.Idle.TheVariants as idle
-use Rattle.agent.specs.declared.agent.Removed.{Removed}
-use Rattle.agent.specs.declared.agent.Removed.TheVariants as removed
-use Rattle.moves.specs.declared.answers.Keeps.TheVariants as keeps
 use Rattle.agent.specs.declared.answers.Told.{Told}
 use Rattle.moves.specs.declared.answers.Says.TheVariants as says
 use Rattle.agent.specs.declared.state.Agent.{Agent}
 use Rattle.agent.specs.declared.state.Given.{Given}
 use Rattle.agent.specs.declared.judge.Input.{Input}
 use Rattle.agent.specs.declared.judge.Input.TheVariants as input
-use Rattle.agent.specs.declared.judge.Judged.{Judged}
-use Rattle.agent.specs.declared.judge.Judged.TheVariants as judged
-use Rattle.agent.specs.declared.judge.Resumes.{Resumes}
-use Rattle.agent.specs.declared.judge.Resumes.TheVariants as resumes
 use Rattle.agent.specs.declared.judge.Start.{Start}
-use Rattle.agent.specs.declared.state.Waiting.{Waiting}
-use Rattle.agent.specs.declared.state.Waiting.TheVariants as waiting
 use Rattle.agent.specs.declared.process.Outcome.{Outcome}
-use Rattle.agent.specs.declared.process.Outcome.TheVariants.{Replied, Called, Refused}
+use Rattle.agent.specs.declared.process.Outcome.TheVariants.{Replied, Called}
 use Rattle.agent.specs.declared.process.Processed.{Processed}
 use Rattle.moves.specs.declared.proxy.Task.{Task}
 use Rattle.moves.specs.declared.proxy.BridgeAnswer.{BridgeAnswer}
@@ -58,43 +35,45 @@ use Rattle.agent.specs.declared.turn.Frame.{Frame}
 use Rattle.agent.specs.declared.turn.Ran.{Ran}
 use Rattle.agent.specs.declared.turn.Stop.{Stop}
 use Rattle.agent.specs.declared.turn.Stop.TheVariants as stop
+use Rattle.sessions.specs.declared.table.ClientSession.{ClientSession}
+use Rattle.agent.specs.declared.state.Pending.{Pending}
 
 -- ---- once nothing refuses it: the answer's part, if it is one, then the submessages behind it
 
-abbrev pub begun_by : Resumes → List (List ℕ) → List (List ℕ) → Frame → List ℕ → List Reply
-begun_by resumes.Nothing s x f sample = []
-begun_by (resumes.Answer number task a) s x f sample = answered_by (got_of s f.session_id) f (sequence_of s x f) sample number task a
+abbrev pub begun_by : Option (ObjectNumber × Task × BridgeAnswer) → List (List ℕ) → List (List ℕ) → Frame → List ℕ → List Reply
+begun_by None s x f sample = []
+begun_by (Some (number, task, a)) s x f sample = answered_by (got_of s f.session_id) f (sequence_of s x f) sample number task a
 
-abbrev pub begun_sessions : Resumes → List (List ℕ) → List Object → Frame → List (List ℕ)
-begun_sessions resumes.Nothing s o f = s
-begun_sessions (resumes.Answer number task a) s o f = answered_sessions (got_of s f.session_id) (keeps_of number task a) s o f.session_id
+abbrev pub begun_sessions : Option (ObjectNumber × Task × BridgeAnswer) → List (List ℕ) → List Object → Frame → List (List ℕ)
+begun_sessions None s o f = s
+begun_sessions (Some (number, task, a)) s o f = answered_sessions (got_of s f.session_id) (keeps_of number task a) s o f.session_id
 
-abbrev pub begun_objects : Resumes → List (List ℕ) → List Object → Frame → List Object
-begun_objects resumes.Nothing s o f = o
-begun_objects (resumes.Answer number task a) s o f = answered_objects (got_of s f.session_id) (keeps_of number task a) s o f.session_id
+abbrev pub begun_objects : Option (ObjectNumber × Task × BridgeAnswer) → List (List ℕ) → List Object → Frame → List Object
+begun_objects None s o f = o
+begun_objects (Some (number, task, a)) s o f = answered_objects (got_of s f.session_id) (keeps_of number task a) s o f.session_id
 
 -- a DATA reply is held as it was sent
 abbrev pub begun_bytes : ObjectNumber → Task → BridgeAnswer → List (List ℕ) → List (List ℕ) → Frame → List ℕ → List ℕ
 begun_bytes number task a s x f sample = says_bytes (says_of task a) f (sequence_of s x f) number sample
 
-abbrev pub begun_streams : Resumes → List (List ℕ) → List (List ℕ) → List ℕ → Frame → List ℕ → List (List ℕ)
-begun_streams resumes.Nothing s x h f sample = x
-begun_streams (resumes.Answer number task a) s x h f sample = answered_streams (got_of s f.session_id) (says_of task a) f s x h (begun_bytes number task a s x f sample)
+abbrev pub begun_streams : Option (ObjectNumber × Task × BridgeAnswer) → List (List ℕ) → List (List ℕ) → List ℕ → Frame → List ℕ → List (List ℕ)
+begun_streams None s x h f sample = x
+begun_streams (Some (number, task, a)) s x h f sample = answered_streams (got_of s f.session_id) (says_of task a) f s x h (begun_bytes number task a s x f sample)
 
-abbrev pub begun_held : Resumes → List (List ℕ) → List (List ℕ) → List ℕ → Frame → List ℕ → List ℕ
-begun_held resumes.Nothing s x h f sample = h
-begun_held (resumes.Answer number task a) s x h f sample = answered_held (got_of s f.session_id) (says_of task a) f s x h (begun_bytes number task a s x f sample)
+abbrev pub begun_held : Option (ObjectNumber × Task × BridgeAnswer) → List (List ℕ) → List (List ℕ) → List ℕ → Frame → List ℕ → List ℕ
+begun_held None s x h f sample = h
+begun_held (Some (number, task, a)) s x h f sample = answered_held (got_of s f.session_id) (says_of task a) f s x h (begun_bytes number task a s x f sample)
 
 -- the same, as the code takes an answer apart
-abbrev pub answers_now : Resumes → Got → Bool
-answers_now resumes.Nothing g = false
-answers_now (resumes.Answer number task a) (got.Session s) = true
-answers_now (resumes.Answer number task a) got.NotLive = false
-answers_now (resumes.Answer number task a) (got.Refused r) = false
+abbrev pub answers_now : Option (ObjectNumber × Task × BridgeAnswer) → Result (Option ClientSession) Refusal → Bool
+answers_now None g = false
+answers_now (Some (number, task, a)) (Ok (Some s)) = true
+answers_now (Some (number, task, a)) (Ok None) = false
+answers_now (Some (number, task, a)) (Err r) = false
 
-abbrev pub told_by : Resumes → Told
-told_by resumes.Nothing = record { keeps = keeps.Nothing; says = says.Status Ok; number = no_object }
-told_by (resumes.Answer number task a) = record { keeps = keeps_of number task a; says = says_of task a; number = number }
+abbrev pub told_by : Option (ObjectNumber × Task × BridgeAnswer) → Told
+told_by None = record { keeps = None; says = says.Status status.Ok; number = no_object }
+told_by (Some (number, task, a)) = record { keeps = keeps_of number task a; says = says_of task a; number = number }
 
 abbrev pub rows_begun : Start → Rows → List ℕ → List ℕ → Rows
 rows_begun x t h sample =
@@ -102,6 +81,13 @@ rows_begun x t h sample =
 
 abbrev pub held_begun : Start → Rows → List ℕ → List ℕ → List ℕ
 held_begun x t h sample = begun_held x.resumes t.sessions t.streams h x.frame sample
+
+abbrev pub with_held : Tables → List ℕ → Tables
+with_held t h = lent t.sessions t.streams t.objects h t.parts t.lengths t.rebuilt
+
+-- the stores behind the answer's part
+abbrev pub begun : Start → Tables → List ℕ → Tables
+begun x t sample = with_rows (with_held t (held_begun x (rows_of t) t.held sample)) (rows_begun x (rows_of t) t.held sample)
 
 abbrev pub first_ran : Start → ℕ → Ran
 first_ran x wrote = record { next = x.next; at = x.left_at; wrote = wrote; stop = stop.Nothing }
@@ -116,9 +102,6 @@ resumed_acted x t h rebuilt sample =
     behind rs
     (left_acted (work_at x.frame (held_begun x t h sample) (rebuilt_part rebuilt x.left_end) (first_ran x (length (joined_replies rs))) (rows_begun x t h sample)) x.left_end x.at)
 
-abbrev pub with_held : Tables → List ℕ → Tables
-with_held t h = lent t.sessions t.streams t.objects h t.parts t.lengths t.rebuilt
-
 abbrev pub resumed : Start → Tables → List ℕ → Turned
 resumed x t sample = with_acted (with_held t (held_begun x (rows_of t) t.held sample)) (resumed_acted x (rows_of t) t.held t.rebuilt sample)
 
@@ -126,9 +109,21 @@ unfoldable pub performed : Start → Tables → List ℕ → List ℕ → Turned
 performed x t d sample = before (resumed x t sample) (λ r t'. run_at x.frame d r t')
 
 -- 12 and 14 have refused a longer sample
-abbrev pub resumes_fit : Resumes → ℕ → ℕ → Bool
-resumes_fit resumes.Nothing stream n = true
-resumes_fit (resumes.Answer number task a) stream n = says_fits (says_of task a) stream n
+abbrev pub resumes_fit : Option (ObjectNumber × Task × BridgeAnswer) → ℕ → ℕ → Bool
+resumes_fit None stream n = true
+resumes_fit (Some (number, task, a)) stream n = says_fits (says_of task a) stream n
+
+-- what has been asked before a call runs: 12 and 14, and that no count of replies wraps
+pub record Prepared (x : Start) (sample : List ℕ) : Type 0 where
+  pub sample_fits : resumes_fit x.resumes x.frame.stream_id (length sample) ≡ true
+  pub room_counts : x.frame.room ≤ 9223372036854775807
+
+-- and 16, of the stores of which a run on no output copies parts
+pub record LongEnough (t : Tables) : Type 0 where
+  pub sessions_long : 256 ≤ length t.sessions
+  pub streams_long : 2048 ≤ length t.streams
+  pub objects_long : 8192 ≤ length t.objects
+  pub rebuilt_long : 32768 ≤ length t.rebuilt
 
 -- ---- 13, last, and the answer to the host
 
@@ -141,9 +136,9 @@ answer_most Done n = 11
 answer_most NoSample n = 11
 answer_most Failed n = 11
 
-abbrev pub first_most : Resumes → ℕ → ℕ
-first_most resumes.Nothing n = 0
-first_most (resumes.Answer number task a) n = answer_most a n
+abbrev pub first_most : Option (ObjectNumber × Task × BridgeAnswer) → ℕ → ℕ
+first_most None n = 0
+first_most (Some (number, task, a)) n = answer_most a n
 
 abbrev pub one_of : ℕ → ℕ → ℕ
 one_of id b = cond (eqb b id) 1 0
@@ -206,17 +201,17 @@ abbrev pub needed_of : Bool → ℕ → ℕ
 needed_of true n = 0
 needed_of false n = n
 
-abbrev pub outcome_of : Stop → ℕ → Outcome
-outcome_of stop.Nothing wrote = Replied wrote
-outcome_of (stop.Call number task call) wrote = Called call wrote
-outcome_of (stop.Inside number task call a e) wrote = Called call wrote
+abbrev pub outcome_of : Stop → ℕ → Result Outcome Refusal
+outcome_of stop.Nothing wrote = Ok (Replied wrote)
+outcome_of (stop.Call number task call) wrote = Ok (Called call wrote)
+outcome_of (stop.Inside number task call a e) wrote = Ok (Called call wrote)
 
-abbrev pub waits_of : Frame → Stop → ℕ → Waiting
-waits_of f stop.Nothing at = waiting.Nothing
+abbrev pub waits_of : Frame → Stop → ℕ → Option Pending
+waits_of f stop.Nothing at = None
 waits_of f (stop.Call number task call) at =
-    waiting.Call (record { session_id = f.session_id; stream_id = f.stream_id; number = number; task = task; at = at; moment = f.moment; left_at = 0; left_end = 0 })
+    Some (record { session_id = f.session_id; stream_id = f.stream_id; number = number; task = task; at = at; moment = f.moment; left_at = 0; left_end = 0 })
 waits_of f (stop.Inside number task call a e) at =
-    waiting.Call (record { session_id = f.session_id; stream_id = f.stream_id; number = number; task = task; at = at; moment = f.moment; left_at = a; left_end = e })
+    Some (record { session_id = f.session_id; stream_id = f.stream_id; number = number; task = task; at = at; moment = f.moment; left_at = a; left_end = e })
 
 abbrev pub finished_of : Agent → Start → Ran → Processed
 finished_of a x r =
@@ -231,7 +226,7 @@ pub record Leaves : Type 0 where
 
 -- a refusal changes no table and no lent byte
 abbrev pub refused_of : Agent → Refusal → Processed
-refused_of a r = record { agent = a; outcome = Refused r }
+refused_of a r = record { agent = a; outcome = Err r }
 
 abbrev pub refuse : Agent → Tables → List ℕ → Refusal → Leaves
 refuse a t out r = record { processed = refused_of a r; tables = t; out = out; replies = [] }
@@ -241,9 +236,9 @@ finish a t out x y =
     cond (ltb (length out) y.ran.wrote) (refuse a t out OutputTooShort)
     (record { processed = finished_of a x y.ran; tables = y.tables; out = put_at out 0 (joined_replies y.replies); replies = y.replies })
 
-abbrev pub processed_by : Judged → Agent → Tables → List ℕ → List ℕ → List ℕ → Leaves
-processed_by (judged.Goes x n) a t out d sample = finish a t out x (performed x t d sample)
-processed_by (judged.Refused r) a t out d sample = refuse a t out r
+abbrev pub processed_by : Result (Start × ℕ) Refusal → Agent → Tables → List ℕ → List ℕ → List ℕ → Leaves
+processed_by (Ok (x, n)) a t out d sample = finish a t out x (performed x t d sample)
+processed_by (Err r) a t out d sample = refuse a t out r
 
 unfoldable pub process_of : Agent → Tables → List ℕ → List ℕ → List ℕ → List ℕ → Input → Given → Leaves
 process_of a t hours out d sample i given = processed_by (judge_of t hours d a i given (length sample) (length out)) a t out d sample
@@ -251,18 +246,18 @@ process_of a t hours out d sample i given = processed_by (judge_of t hours d a i
 -- ---- the entry points
 
 -- 16 of the sessions' stores, then 16 of the store of the week's minutes, then 19: "at set-up after 16"
-abbrev pub set_up_by : SetUp → Windows → SetUp
-set_up_by (setup.Ready next) windows.Fit = setup.Ready next
-set_up_by (setup.Ready next) (windows.Refused r) = setup.Refused r
-set_up_by (setup.Refused r) w = setup.Refused r
+abbrev pub set_up_by : Result ℕ Refusal → Result (Unit {0}) Refusal → Result ℕ Refusal
+set_up_by (Ok next) (Ok tt) = Ok next
+set_up_by (Ok next) (Err r) = Err r
+set_up_by (Err r) w = Err r
 
-abbrev pub set_up_judged : Tables → ℕ → List Window → ℕ → SetUp
+abbrev pub set_up_judged : Tables → ℕ → List Window → ℕ → Result ℕ Refusal
 set_up_judged t hours ws max =
     set_up_by (set_up_of (length t.sessions) (length t.streams) (length t.objects) (length t.held) (length t.parts) (length t.lengths) (length t.rebuilt) max) (checked_of hours ws)
 
-abbrev pub set_up_as : SetUp → ℕ → ℕ → AgentSetUp
-set_up_as (setup.Ready next) max timeout = ready.Ready (record { max_clients = max; timeout_ms = timeout; next = next; waits = waiting.Nothing })
-set_up_as (setup.Refused r) max timeout = ready.Refused r
+abbrev pub set_up_as : Result ℕ Refusal → ℕ → ℕ → Result Agent Refusal
+set_up_as (Ok next) max timeout = Ok (record { max_clients = max; timeout_ms = timeout; next = next; waits = None })
+set_up_as (Err r) max timeout = Err r
 
 abbrev pub incoming_of : Agent → Tables → List ℕ → List ℕ → List ℕ → Given → Leaves
 incoming_of a t hours out d given = process_of a t hours out d [] input.Datagram given
@@ -275,31 +270,31 @@ abbrev pub answer_of : Agent → Tables → List ℕ → List ℕ → List ℕ �
 answer_of a t out d sample b = process_of a t [] out d sample (input.Answer b) no_given
 
 -- 15, then 16 of the record: whether a removal or a sweep may run
-abbrev pub idle_of : Waiting → Agent → Idle
-idle_of waiting.Nothing a = cond (record_sound a) idle.Free (idle.Refused OverLimit)
-idle_of (waiting.Call p) a = idle.Refused OutOfTurn
+abbrev pub idle_of : Option Pending → Agent → Result (Unit {0}) Refusal
+idle_of None a = cond (record_sound a) (Ok tt) (Err OverLimit)
+idle_of (Some p) a = Err OutOfTurn
 
-abbrev pub removed_as : Named → Removed
-removed_as named.Live = removed.Session
-removed_as named.NotLive = removed.NotLive
-removed_as (named.Refused r) = removed.Refused r
+abbrev pub removed_as : Result Bool Refusal → Result Bool Refusal
+removed_as (Ok true) = (Ok true)
+removed_as (Ok false) = (Ok false)
+removed_as (Err r) = Err r
 
-abbrev pub removed_by : Idle → List (List ℕ) → ℕ → Removed
-removed_by idle.Free s id = removed_as (named_of s id)
-removed_by (idle.Refused r) s id = removed.Refused r
+abbrev pub removed_by : Result (Unit {0}) Refusal → List (List ℕ) → ℕ → Result Bool Refusal
+removed_by (Ok tt) s id = removed_as (named_of s id)
+removed_by (Err r) s id = Err r
 
-abbrev pub removed_rows : Idle → List (List ℕ) → ℕ → List (List ℕ)
-removed_rows idle.Free s id = ended_rows s id
-removed_rows (idle.Refused r) s id = s
+abbrev pub removed_rows : Result (Unit {0}) Refusal → List (List ℕ) → ℕ → List (List ℕ)
+removed_rows (Ok tt) s id = ended_rows s id
+removed_rows (Err r) s id = s
 
-abbrev pub swept_by : Idle → Agent → List (List ℕ) → ℕ → List ℕ → Written
-swept_by idle.Free a s time out = evicted_of s time a.timeout_ms out
-swept_by (idle.Refused r) a s time out = written.Refused r
+abbrev pub swept_by : Result (Unit {0}) Refusal → Agent → List (List ℕ) → ℕ → List ℕ → Result ℕ Refusal
+swept_by (Ok tt) a s time out = evicted_of s time a.timeout_ms out
+swept_by (Err r) a s time out = Err r
 
-abbrev pub swept_rows : Idle → Agent → List (List ℕ) → ℕ → List ℕ → List (List ℕ)
-swept_rows idle.Free a s time out = evicted_rows s time a.timeout_ms out
-swept_rows (idle.Refused r) a s time out = s
+abbrev pub swept_rows : Result (Unit {0}) Refusal → Agent → List (List ℕ) → ℕ → List ℕ → List (List ℕ)
+swept_rows (Ok tt) a s time out = evicted_rows s time a.timeout_ms out
+swept_rows (Err r) a s time out = s
 
-abbrev pub swept_out : Idle → Agent → List (List ℕ) → ℕ → List ℕ → List ℕ
-swept_out idle.Free a s time out = evicted_out s time a.timeout_ms out
-swept_out (idle.Refused r) a s time out = out
+abbrev pub swept_out : Result (Unit {0}) Refusal → Agent → List (List ℕ) → ℕ → List ℕ → List ℕ
+swept_out (Ok tt) a s time out = evicted_out s time a.timeout_ms out
+swept_out (Err r) a s time out = out

@@ -1,6 +1,5 @@
 -- The promise of document 02's W8: which WRITE_DATA reaches the bridge, by the windows that set-up took.
-use Rattle.std.specs.Prelude.{ℕ, ◌≡◌, List, [], ◌∷◌}
-use Rattle.std.proofs.Math.Option.{none, some}
+use Rattle.std.specs.Prelude.{ℕ, ◌≡◌, List, [], ◌∷◌, None, Some}
 use Rattle.codec.specs.declared.submessages.StatusCode.TheVariants.{ErrUnknownRef, ErrIncompatible}
 use Rattle.codec.specs.declared.submessages.Submessage.TheVariants.{WriteData}
 use Rattle.codec.specs.declared.submessages.WriteDataPayload.{WriteDataPayload}
@@ -22,11 +21,11 @@ write_in ws g stream p body = in_of (moment_of (is_open ws) g) stream (WriteData
 -- "WRITE_DATA to a known writer in a closed minute answers ERR_INCOMPATIBLE without a call": it calls exactly if some window of that day holds the
 -- minute. A writer that isn't known is answered ERR_UNKNOWN_REF, in any minute.
 pub record WritesExactly (ws : List Window) (g : Given) (stream : ℕ) (p : WriteDataPayload) (body : List ℕ) (l : Local) : Type 0 where
-  pub open_calls : (h : ℕ) → handle_at p.writer_id.0 l ≡ some h → HeldBy ws g.day g.minute
+  pub open_calls : (h : ℕ) → handle_at p.writer_id.0 l ≡ Some h → HeldBy ws g.day g.minute
       → handle l (write_in ws g stream p body) ≡ calls (touched g.time l) [] (write_data h body) (record { asked = record { stream = stream; number = p.writer_id.0; task = writing }; left = [] })
-  pub closed_answers : (h : ℕ) → handle_at p.writer_id.0 l ≡ some h → (HeldBy ws g.day g.minute → ⊥)
+  pub closed_answers : (h : ℕ) → handle_at p.writer_id.0 l ≡ Some h → (HeldBy ws g.day g.minute → ⊥)
       → handle l (write_in ws g stream p body) ≡ done (touched g.time l) (status_bytes l.id stream p.writer_id.0 ErrIncompatible ∷ [])
-  pub unknown : handle_at p.writer_id.0 l ≡ none
+  pub unknown : handle_at p.writer_id.0 l ≡ None
       → handle l (write_in ws g stream p body) ≡ done (touched g.time l) (status_bytes l.id stream p.writer_id.0 ErrUnknownRef ∷ [])
 
 abbrev pub QuietHours : Type 0

@@ -1,29 +1,24 @@
 -- A leg of a run, as the code goes: the submessages of one stretch of bytes, until a bridge call is handed out, a FRAGMENT is to be kept, or the end. A run is its legs,
 -- with the FRAGMENT between two of them; rebuilt submessages (W6) and the beginning of a run are a leg each. No contract of an entry point cites this file: it stands between the
 -- code's loop and Run.antt.
-use Rattle.std.specs.Prelude.{ℕ, zero, suc, ◌-◌, Bool, true, false, cond, not, List, [], ◌∷◌, ◌++◌, length}
+use Rattle.std.specs.Prelude.{ℕ, zero, suc, ◌-◌, Bool, true, false, cond, not, List, [], ◌∷◌, ◌++◌, length, None, Option, Some}
 use Rattle.codec.specs.Reading.{read_at}
 use Rattle.sessions.specs.Table.{named_of}
 use Rattle.sessions.specs.Opening.{created_of, opened_rows, opened_streams}
 use Rattle.sessions.specs.View.{Tables}
-use Rattle.moves.specs.Rows.{Rows, rows, blank_asked}
+use Rattle.moves.specs.Rows.{Rows, rows}
 use Rattle.moves.specs.declared.handle.Opening.{Opening}
 use Rattle.moves.specs.declared.handle.Opening.TheVariants.{Client, Fragment, Other, Unread}
 use Rattle.agent.specs.Lent.{rows_of, with_rows}
 use Rattle.agent.specs.Step.{Reply, opened, joined_replies}
 use Rattle.agent.specs.Run.{Turned, id_opened, greeted, passed, is_live, taken_of, delivered, goes_on, left_ran, fragment_turned}
-use Rattle.agent.specs.Host.{begun_by, rows_begun, held_begun, first_ran}
-use Rattle.agent.specs.declared.judge.Resumes.{Resumes}
-use Rattle.agent.specs.declared.judge.Resumes.TheVariants as resumes
+use Rattle.agent.specs.Host.{begun_by, rows_begun, held_begun, with_held, first_ran}
 use Rattle.agent.specs.declared.judge.Start.{Start}
 use Rattle.agent.specs.declared.leg.Mode.{Mode}
 use Rattle.agent.specs.declared.leg.Mode.TheVariants.{Datagram, Rebuilt, Entering}
-use Rattle.agent.specs.declared.leg.Found.{Found}
-use Rattle.agent.specs.declared.leg.Found.TheVariants as found
 use Rattle.agent.specs.declared.leg.Leg.{Leg}
 use Rattle.agent.specs.declared.leg.Step.{Step}
 use Rattle.agent.specs.declared.leg.Step.TheVariants.{Greets, Keeps, Delivers, Passes}
-use Rattle.agent.specs.declared.run.Kept.{Kept}
 use Rattle.agent.specs.declared.turn.Frame.{Frame}
 use Rattle.agent.specs.declared.turn.Ran.{Ran}
 use Rattle.agent.specs.declared.turn.Taken.{Taken}
@@ -49,7 +44,7 @@ step_of m Other = Delivers
 step_of m Unread = Passes
 
 abbrev pub plain_leg : Ran → Leg
-plain_leg r = record { ran = r; found = found.Nothing }
+plain_leg r = record { ran = r; found = None }
 
 -- what it leaves: the run so far with the FRAGMENT that ends its leg, the rows, and its replies
 pub record Led : Type 0 where
@@ -61,7 +56,7 @@ abbrev pub led_by : Step → Frame → Rows → List ℕ → List ℕ → Ran �
 led_by Greets f t h s r x =
     let c = created_of t.sessions t.streams f.max_clients r.next in
     record { leg = plain_leg (greeted f r x.at c); rows = rows (opened_rows c t.sessions x.asked.key f.moment.time) (opened_streams c t.streams) t.objects; replies = opened (id_opened c) ∷ [] }
-led_by Keeps f t h s r x = record { leg = record { ran = passed r x.at; found = found.Fragment x }; rows = t; replies = [] }
+led_by Keeps f t h s r x = record { leg = record { ran = passed r x.at; found = Some x }; rows = t; replies = [] }
 led_by Delivers f t h s r x =
     let y = delivered (named_of t.sessions f.session_id) f t h s r x in record { leg = plain_leg y.ran; rows = y.rows; replies = y.replies }
 led_by Passes f t h s r x = record { leg = plain_leg (passed r x.at); rows = t; replies = [] }
@@ -71,9 +66,9 @@ led m f t h s r = let x = taken_of (read_at s r.at) (length s) in led_by (step_o
 
 -- ---- all of them
 
-abbrev pub is_kept : Found → Bool
-is_kept found.Nothing = false
-is_kept (found.Fragment x) = true
+abbrev pub is_kept : Option Taken → Bool
+is_kept None = false
+is_kept (Some x) = true
 
 abbrev pub is_entering : Mode → Bool
 is_entering Datagram = false
@@ -103,14 +98,9 @@ leg_at m f h s r t = leg_in (length s - r.at) m f h s (plain_leg r) t
 abbrev pub leg_turned : Led → Tables → Turned
 leg_turned y t = record { ran = y.leg.ran; tables = with_rows t y.rows; replies = y.replies }
 
-abbrev pub kept_by : Found → Frame → List ℕ → Ran → Tables → Turned
-kept_by found.Nothing f d r t = record { ran = r; tables = t; replies = [] }
-kept_by (found.Fragment x) f d r t = fragment_turned f t d r x
-
--- as the code takes it apart
-abbrev pub kept_in : Found → Kept
-kept_in found.Nothing = record { kept = false; took = record { asked = blank_asked Unread; body = record { start = 0; len = 0 }; at = 0 } }
-kept_in (found.Fragment x) = record { kept = true; took = x }
+abbrev pub kept_by : Option Taken → Frame → List ℕ → Ran → Tables → Turned
+kept_by None f d r t = record { ran = r; tables = t; replies = [] }
+kept_by (Some x) f d r t = fragment_turned f t d r x
 
 -- ---- the beginning of a run, until the session that the header names is live: before that only CREATE_CLIENT does anything
 
@@ -123,12 +113,11 @@ entered f len r sessions = cond (is_live (named_of sessions f.session_id)) true 
 
 -- ---- a call without rebuilt submessages: the answer's part, if it is one, and one leg
 
-abbrev pub is_answer : Resumes → Bool
-is_answer resumes.Nothing = false
-is_answer (resumes.Answer number task a) = true
-
 abbrev pub plainly : Start → Rows → List ℕ → List ℕ → List ℕ → Led
 plainly x t h d sample =
     let rs = begun_by x.resumes t.sessions t.streams x.frame sample in
     let y = leg_at Datagram x.frame (held_begun x t h sample) d (left_ran (first_ran x (length (joined_replies rs))) x.left_end x.at) (rows_begun x t h sample) in
     record { leg = y.leg; rows = y.rows; replies = rs ++ y.replies }
+
+abbrev pub plain_performed : Start → Tables → List ℕ → List ℕ → Turned
+plain_performed x t d sample = leg_turned (plainly x (rows_of t) t.held d sample) (with_held t (held_begun x (rows_of t) t.held sample))

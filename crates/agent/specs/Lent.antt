@@ -1,5 +1,5 @@
 -- The stores that the host lends, as one value.
-use Rattle.std.specs.Prelude.{ℕ, cond, List, leb}
+use Rattle.std.specs.Prelude.{ℕ, List}
 use Rattle.codec.specs.Reading.{part_of}
 use Rattle.sessions.specs.View.{Tables}
 use Rattle.sessions.specs.declared.objects.Object.{Object}
@@ -18,7 +18,3 @@ with_rows t r = lent r.sessions r.streams r.objects t.held t.parts t.lengths t.r
 -- W6: the first n of the rebuilt bytes, in their place
 abbrev pub rebuilt_part : List ℕ → ℕ → List ℕ
 rebuilt_part rebuilt n = part_of rebuilt (record { start = 0; len = n })
-
--- how many these are: n, or none where the place is shorter
-abbrev pub rebuilt_end : ℕ → ℕ → ℕ
-rebuilt_end len n = cond (leb n len) n 0

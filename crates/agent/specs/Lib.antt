@@ -25,3 +25,4 @@ pub mod Judge
 pub mod Host
 pub mod Legs
 pub mod Dry
+pub mod Stores

@@ -1,6 +1,5 @@
 -- What the rules do to the tables of the one-session machine: its id, key, last activity, objects, streams and fragments (sessions' `Local`).
-use Rattle.std.specs.Prelude.{ℕ, Bool, false, List, leb, length}
-use Rattle.std.proofs.Math.Option.{Option, none, some}
+use Rattle.std.specs.Prelude.{ℕ, Bool, false, List, leb, length, Option, None, Some}
 use Rattle.streams.specs.View.{acknack_in, sent_in}
 use Rattle.sessions.specs.FragmentStore.{FragmentStore}
 use Rattle.sessions.specs.View.{Entry, KeptStream, Local, find_in, put_in, drop_in, stream_in, open_in, write_in}
@@ -23,16 +22,16 @@ dropping number l = with_objects l (drop_in l.objects number)
 
 -- "A session holds 32 objects": a number that is not held finds no place
 abbrev pub no_place : Option Entry → List Entry → Bool
-no_place (some e) es = false
-no_place none es = leb 32 (length es)
+no_place (Some e) es = false
+no_place None es = leb 32 (length es)
 
 abbrev pub full : ℕ → Local → Bool
 full number l = no_place (find_in l.objects number) l.objects
 
 -- the handle of an object, if it is there and has one: "as writer, reader or parent it counts as unknown"
 abbrev pub entry_handle : Option Entry → Option ℕ
-entry_handle none = none
-entry_handle (some e) = e.handle
+entry_handle None = None
+entry_handle (Some e) = e.handle
 
 -- "from any object of that number"
 abbrev pub handle_at : ℕ → Local → Option ℕ
@@ -49,8 +48,8 @@ opening n l = with_streams l (open_in l.streams n)
 
 -- "`process_acknack` drops held numbers before `first_unacked_seq`", on the stream of that number, if it is open
 abbrev pub acknowledged_by : ℕ → Option KeptStream → List KeptStream → List KeptStream
-acknowledged_by first none ss = ss
-acknowledged_by first (some k) ss = write_in ss (acknack_in first k)
+acknowledged_by first None ss = ss
+acknowledged_by first (Some k) ss = write_in ss (acknack_in first k)
 
 abbrev pub acknowledging : ℕ → ℕ → Local → Local
 acknowledging n first l = with_streams l (acknowledged_by first (stream_in l.streams n) l.streams)

@@ -1,6 +1,5 @@
 -- The promise of document 02's W7, said of the bytes: which call a CREATE of a Topic hands out, and when it hands out none.
-use Rattle.std.specs.Prelude.{ℕ, ◌≡◌, true, false, List}
-use Rattle.std.proofs.Math.Option.{none, some}
+use Rattle.std.specs.Prelude.{ℕ, ◌≡◌, true, false, List, None, Some}
 use Rattle.codec.specs.Bytes.{AllBytes}
 use Rattle.codec.specs.Grammar.{IsString}
 use Rattle.codec.specs.Submessages.{kind_byte}
@@ -24,12 +23,12 @@ pub record Named (body name type : List ℕ) : Type 0 where
 pub record NamedExactly (stream number parent : ℕ) (body : List ℕ) (l : Local) : Type 0 where
   pub full_first : full number l ≡ true → on_create Topic stream number parent body l ≡ says stream number ErrResources l
   pub named : full number l ≡ false → has_dependant l.objects (find_in l.objects number) ≡ false
-      → (p : ℕ) → handle_at parent l ≡ some p → (name type : List ℕ) → Named body name type
+      → (p : ℕ) → handle_at parent l ≡ Some p → (name type : List ℕ) → Named body name type
       → on_create Topic stream number parent body l ≡ asks stream number (creating (kind_byte Topic) parent) (create_topic p name type) l
   pub unnamed : full number l ≡ false → has_dependant l.objects (find_in l.objects number) ≡ false
       → ((name type : List ℕ) → Named body name type → ⊥) → on_create Topic stream number parent body l ≡ says stream number ErrInvalidData l
   pub orphan : full number l ≡ false → has_dependant l.objects (find_in l.objects number) ≡ false
-      → handle_at parent l ≡ none → on_create Topic stream number parent body l ≡ says stream number ErrInvalidData l
+      → handle_at parent l ≡ None → on_create Topic stream number parent body l ≡ says stream number ErrInvalidData l
 
 abbrev pub NamesExactly : Type 0
 NamesExactly = (stream number parent : ℕ) (body : List ℕ) → AllBytes body → (l : Local) → NamedExactly stream number parent body l

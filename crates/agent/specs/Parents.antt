@@ -1,7 +1,6 @@
 -- Document 02, W1, on the list of objects: "A DataWriter or DataReader uses the Topic that its parent number names, and the Participant that
 -- this Topic's parent names. If either isn't held with that kind, the answer is ERR_INVALID_DATA without a call."
-use Rattle.std.specs.Prelude.{ℕ, cond, List, eqb}
-use Rattle.std.proofs.Math.Option.{Option, none, some}
+use Rattle.std.specs.Prelude.{ℕ, cond, List, eqb, Option, None, Some}
 use Rattle.codec.specs.Submessages.{kind_byte}
 use Rattle.codec.specs.declared.submessages.ObjectKind.{ObjectKind}
 use Rattle.codec.specs.declared.submessages.ObjectKind.TheVariants.{Participant, Topic}
@@ -10,19 +9,19 @@ use Rattle.agent.specs.Local.{entry_handle}
 
 -- "held with that kind"
 abbrev pub of_kind : ObjectKind → Option Entry → Option Entry
-of_kind kind none = none
-of_kind kind (some e) = cond (eqb e.kind (kind_byte kind)) (some e) none
+of_kind kind None = None
+of_kind kind (Some e) = cond (eqb e.kind (kind_byte kind)) (Some e) None
 
 -- a Participant's handle and a Topic's, or none where either has none
 abbrev pub both_handles : Option ℕ → Option ℕ → Option (ℕ × ℕ)
-both_handles (some p) (some t) = some (p, t)
-both_handles (some p) none = none
-both_handles none t = none
+both_handles (Some p) (Some t) = Some (p, t)
+both_handles (Some p) None = None
+both_handles None t = None
 
 -- "the Participant that this Topic's parent names"
 abbrev pub handles_above : List Entry → Option Entry → Option (ℕ × ℕ)
-handles_above es none = none
-handles_above es (some topic) = both_handles (entry_handle (of_kind Participant (find_in es topic.parent))) topic.handle
+handles_above es None = None
+handles_above es (Some topic) = both_handles (entry_handle (of_kind Participant (find_in es topic.parent))) topic.handle
 
 -- "the Topic that its parent number names"
 abbrev pub handles_named : List Entry → ℕ → Option (ℕ × ℕ)

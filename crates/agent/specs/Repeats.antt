@@ -1,6 +1,5 @@
 -- W5, "Repeat what was asked for", over any list of calls: the DATA replies of a session's streams, and what an ACKNACK repeats of them.
-use Rattle.std.specs.Prelude.{ℕ, ◌≡◌, ◌≢◌, Bool, cond, eqb, length}
-use Rattle.std.proofs.Math.Option.{Option, none, some}
+use Rattle.std.specs.Prelude.{ℕ, ◌≡◌, ◌≢◌, Bool, cond, eqb, length, Option, None, Some}
 use mathlib.Core.List.{List, [], ◌∷◌, ◌++◌, map, Memᴰ}
 use Rattle.codec.specs.declared.submessages.Submessage.{Submessage}
 use Rattle.codec.specs.declared.submessages.Submessage.TheVariants.{CreateClient, Create, Delete, Status, WriteData, ReadData, Data, Heartbeat, Acknack, Fragment}
@@ -69,27 +68,27 @@ replies_of (calls l rs c p) = rs
 
 -- an ACKNACK's first number and bitmap
 abbrev pub acknack_of : Submessage → Option (ℕ × ℕ)
-acknack_of (CreateClient p) = none
-acknack_of (Create p) = none
-acknack_of (Delete p) = none
-acknack_of (Status p) = none
-acknack_of (WriteData p) = none
-acknack_of (ReadData p) = none
-acknack_of (Data p) = none
-acknack_of (Heartbeat p) = none
-acknack_of (Acknack p) = some (p.first_unacked_seq, p.nack_bitmap)
-acknack_of (Fragment p) = none
+acknack_of (CreateClient p) = None
+acknack_of (Create p) = None
+acknack_of (Delete p) = None
+acknack_of (Status p) = None
+acknack_of (WriteData p) = None
+acknack_of (ReadData p) = None
+acknack_of (Data p) = None
+acknack_of (Heartbeat p) = None
+acknack_of (Acknack p) = Some (p.first_unacked_seq, p.nack_bitmap)
+acknack_of (Fragment p) = None
 
 -- the sample that answers a READ_DATA: its reply is DATA
 abbrev pub sample_of : Task → Answer → Option (List ℕ)
-sample_of reading (sample d) = some d
-sample_of reading (created h) = none
-sample_of reading succeeded = none
-sample_of reading no_sample = none
-sample_of reading failed = none
-sample_of (creating kind parent) a = none
-sample_of writing a = none
-sample_of deleting a = none
+sample_of reading (sample d) = Some d
+sample_of reading (created h) = None
+sample_of reading succeeded = None
+sample_of reading no_sample = None
+sample_of reading failed = None
+sample_of (creating kind parent) a = None
+sample_of writing a = None
+sample_of deleting a = None
 
 -- ---- what came to each stream of a session so far, in order: the DATA replies, as they were sent, and the ACKNACKs
 
@@ -104,32 +103,32 @@ adding n [] g = g
 adding n (e ∷ es) g = adding n es (λ m. cond (eqb m n) (g m ++ (e ∷ [])) (g m))
 
 abbrev pub asks_again : Option (ℕ × ℕ) → List (Event Bytes)
-asks_again none = []
-asks_again (some x) = acknacked x.0 x.1 ∷ []
+asks_again None = []
+asks_again (Some x) = acknacked x.0 x.1 ∷ []
 
 abbrev pub sends : Option (List ℕ) → List Bytes → List (Event Bytes)
-sends none rs = []
-sends (some d) rs = map sent rs
+sends None rs = []
+sends (Some d) rs = map sent rs
 
 -- ---- what is right of a work, on a stream n other than 0 to which es came before
 
 -- "An ACKNACK is answered by the listed messages, byte for byte, in bit order": its replies are what the stream then holds of them, and each is
 -- the last DATA reply, of all that were sent on the stream, under a number that the bitmap asks for
 abbrev pub Repeated : Option (ℕ × ℕ) → ℕ → List (Event Bytes) → List Bytes → Type 0
-Repeated none n es rs = Unit {0}
-Repeated (some x) n es rs =
+Repeated None n es rs = Unit {0}
+Repeated (Some x) n es rs =
     let first = x.0 in
     let bitmap = x.1 in
     (rs ≡ repeated_in (acknack_in first (stream_after n es)).held first bitmap) × ((r : Bytes) → Memᴰ r rs → AskedLast first bitmap r (data_of es))
 
 -- "each DATA reply now takes the next send sequence in its header": behind so many DATA replies its number is so many, and after 65,535 comes 0
 abbrev pub Sent : Option (List ℕ) → ℕ → ℕ → ℕ → List (Event Bytes) → List Bytes → Type 0
-Sent none id n number es rs = Unit {0}
-Sent (some d) id n number es rs = rs ≡ data_bytes id n (number_of (length (data_of es))) number d ∷ []
+Sent None id n number es rs = Unit {0}
+Sent (Some d) id n number es rs = rs ≡ data_bytes id n (number_of (length (data_of es))) number d ∷ []
 
 -- "and is held": each stream of the tables is what came to it leaves
 abbrev pub Tabled : Came → Local → Type 0
-Tabled g l = (n : ℕ) → n ≢ 0 → (k : KeptStream) → stream_in l.streams n ≡ some k → k ≡ stream_after n (g n)
+Tabled g l = (n : ℕ) → n ≢ 0 → (k : KeptStream) → stream_in l.streams n ≡ Some k → k ≡ stream_after n (g n)
 
 -- what has come behind a work
 abbrev pub behind : Work → Came → Came

@@ -1,6 +1,5 @@
 -- The rules of one session: document 01's one-session machine, as an instance of `isolation`'s rules; and its handles.
-use Rattle.std.specs.Prelude.{ℕ, Bool, List, [], ◌∷◌}
-use Rattle.std.proofs.Math.Option.{Option, none, some}
+use Rattle.std.specs.Prelude.{ℕ, Bool, List, [], ◌∷◌, Option, None, Some}
 use Rattle.isolation.specs.Rules.{Rules}
 use Rattle.isolation.specs.Machine.{Action, handles, resumes, Handles}
 use Rattle.sessions.specs.View.{Entry, Local, start_of, expired}
@@ -45,8 +44,8 @@ handles_in (delete_entity entity) = entity ∷ []
 
 -- the objects that have a handle, with it
 abbrev pub held_as : ℕ → Option ℕ → List (ℕ × ℕ) → List (ℕ × ℕ)
-held_as number none more = more
-held_as number (some h) more = (number, h) ∷ more
+held_as number None more = more
+held_as number (Some h) more = (number, h) ∷ more
 
 abbrev pub handles_held : List Entry → List (ℕ × ℕ)
 handles_held [] = []

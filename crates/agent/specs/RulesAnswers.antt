@@ -1,6 +1,5 @@
 -- The answer to a session's call: "The same rules give the reply."
-use Rattle.std.specs.Prelude.{ℕ, cond, List, [], ◌∷◌, eqb}
-use Rattle.std.proofs.Math.Option.{Option, none, some}
+use Rattle.std.specs.Prelude.{ℕ, cond, List, [], ◌∷◌, eqb, Option, None, Some}
 use Rattle.codec.specs.declared.submessages.StatusCode.TheVariants.{Ok, ErrUnknownRef, ErrInvalidData}
 use Rattle.isolation.specs.Rules.{done}
 use Rattle.sessions.specs.View.{KeptStream, Local, stream_in}
@@ -13,7 +12,7 @@ use Rattle.agent.specs.RulesObjects.{Move, says}
 
 -- "A CREATE that succeeds .. lists its object with the handle returned"; a failed one answers ERR_INVALID_DATA
 abbrev pub create_answered : ℕ → ℕ → ℕ → ℕ → Answer → Local → Move
-create_answered stream number kind parent (created h) l = says stream number Ok (listing number kind (some h) parent l)
+create_answered stream number kind parent (created h) l = says stream number Ok (listing number kind (Some h) parent l)
 create_answered stream number kind parent succeeded l = says stream number ErrInvalidData l
 create_answered stream number kind parent (sample d) l = says stream number ErrInvalidData l
 create_answered stream number kind parent no_sample l = says stream number ErrInvalidData l
@@ -37,8 +36,8 @@ write_answered stream number failed l = says stream number ErrInvalidData l
 
 -- W5: "On streams other than 0 each DATA reply now takes the next send sequence in its header and is held." READ_DATA has opened the stream.
 abbrev pub sample_on : ℕ → ℕ → List ℕ → Option KeptStream → Local → Move
-sample_on stream number d none l = done l (data_bytes l.id stream 0 number d ∷ [])
-sample_on stream number d (some k) l = let bytes = data_bytes l.id stream k.next number d in done (sending bytes k l) (bytes ∷ [])
+sample_on stream number d None l = done l (data_bytes l.id stream 0 number d ∷ [])
+sample_on stream number d (Some k) l = let bytes = data_bytes l.id stream k.next number d in done (sending bytes k l) (bytes ∷ [])
 
 -- a sample is answered by DATA; "A read without data answers STATUS OK"
 abbrev pub read_answered : ℕ → ℕ → Answer → Local → Move

@@ -1,6 +1,5 @@
 -- Any submessage of a session: one as it stands in its datagram, or a FRAGMENT, whose rebuilt submessages are worked off one behind the other.
-use Rattle.std.specs.Prelude.{ℕ, Bool, List, [], ◌∷◌, ◌++◌, map}
-use Rattle.std.proofs.Math.Option.{Option, none, some}
+use Rattle.std.specs.Prelude.{ℕ, Bool, List, [], ◌∷◌, ◌++◌, map, Option, None, Some}
 use Rattle.codec.specs.Grammar.{Said}
 use Rattle.codec.specs.Rebuilt.{rebuilt_reading}
 use Rattle.codec.specs.declared.submessages.FragmentPayload.{FragmentPayload}
@@ -72,8 +71,8 @@ rebuilt_from moment stream xs = map (λ (x : Said). in_of moment stream x.fields
 
 -- "When the last missing number comes": the submessages that it brings; none if the rebuilt bytes are refused
 abbrev pub brought_by : In → Option (List ℕ) → List In
-brought_by i none = []
-brought_by i (some bytes) = rebuilt_from i.moment i.stream (rebuilt_reading bytes)
+brought_by i None = []
+brought_by i (Some bytes) = rebuilt_from i.moment i.stream (rebuilt_reading bytes)
 
 abbrev pub brought : FragmentPayload → In → Local → List In
 brought p i l = brought_by i (gathered_bytes l.store p.fragment_nr p.total_fragments i.body)

@@ -1,16 +1,14 @@
 -- CREATE, DELETE, WRITE_DATA and READ_DATA, on the tables of a session that was just touched. `stream` is the header's.
-use Rattle.std.specs.Prelude.{ℕ, ◌+◌, Bool, cond, List, [], ◌∷◌, eqb, leb}
-use Rattle.std.proofs.Math.Option.{Option, none, some}
+use Rattle.std.specs.Prelude.{ℕ, ◌+◌, Bool, cond, List, [], ◌∷◌, eqb, leb, Err, Ok, Result, Option, None, Some}
 use Rattle.codec.specs.Reading.{part_of}
 use Rattle.codec.specs.Strings.{string_at}
 use Rattle.codec.specs.Submessages.{kind_byte}
 use Rattle.codec.specs.declared.layouts.Span.{Span}
-use Rattle.codec.specs.declared.strings.StringRead.{StringRead}
-use Rattle.codec.specs.declared.strings.StringRead.TheVariants as string
 use Rattle.codec.specs.declared.submessages.ObjectKind.{ObjectKind}
 use Rattle.codec.specs.declared.submessages.ObjectKind.TheVariants.{Participant, Topic, Publisher, Subscriber, DataWriter, DataReader}
 use Rattle.codec.specs.declared.submessages.StatusCode.{StatusCode}
-use Rattle.codec.specs.declared.submessages.StatusCode.TheVariants.{Ok, ErrUnknownRef, ErrInvalidData, ErrIncompatible, ErrResources}
+use Rattle.codec.specs.declared.submessages.StatusCode.TheVariants as status
+use Rattle.codec.specs.declared.submessages.StatusCode.TheVariants.{ErrUnknownRef, ErrInvalidData, ErrIncompatible, ErrResources}
 use Rattle.isolation.specs.Rules.{Bytes, Outcome, done, calls}
 use Rattle.streams.specs.View.{many_held}
 use Rattle.sessions.specs.View.{Entry, KeptStream, Local, find_in, stream_in}
@@ -19,6 +17,7 @@ use Rattle.agent.specs.Local.{listing, dropping, full, handle_at, opening}
 use Rattle.moves.specs.Calls.{Call, create_participant, create_topic, create_writer, create_reader, write_data, read_data, delete_entity, Task, creating, writing, reading, deleting, Pending}
 use Rattle.moves.specs.Replies.{status_bytes}
 use Rattle.agent.specs.Parents.{handles_named}
+use Rattle.codec.specs.declared.refusals.Refusal.{Refusal}
 
 -- "It replies, hands out one call and waits, or does neither."
 abbrev pub Move : Type 0
@@ -34,12 +33,12 @@ asks stream number task call l = calls l [] call (record { stream = stream; numb
 
 -- one thing with an object's handle, another where there is no such object or it has none
 abbrev pub if_handle : Option ℕ → (ℕ → Move) → Move → Move
-if_handle (some h) with without = with h
-if_handle none with without = without
+if_handle (Some h) with without = with h
+if_handle None with without = without
 
 abbrev pub if_handles : Option (ℕ × ℕ) → (ℕ → ℕ → Move) → Move → Move
-if_handles (some hs) with without = with hs.0 hs.1
-if_handles none with without = without
+if_handles (Some hs) with without = with hs.0 hs.1
+if_handles None with without = without
 
 -- ---- CREATE
 
@@ -48,13 +47,13 @@ pub record Names : Type 0 where
   pub name : List ℕ
   pub type : List ℕ
 
-abbrev pub type_behind : List ℕ → Span → StringRead → Option Names
-type_behind body name (string.Text type) = some (record { name = part_of body name; type = part_of body type })
-type_behind body name (string.Refused r) = none
+abbrev pub type_behind : List ℕ → Span → Result Span Refusal → Option Names
+type_behind body name (Ok type) = Some (record { name = part_of body name; type = part_of body type })
+type_behind body name (Err r) = None
 
-abbrev pub names_from : List ℕ → StringRead → Option Names
-names_from body (string.Text name) = type_behind body name (string_at body (name.start + name.len))
-names_from body (string.Refused r) = none
+abbrev pub names_from : List ℕ → Result Span Refusal → Option Names
+names_from body (Ok name) = type_behind body name (string_at body (name.start + name.len))
+names_from body (Err r) = None
 
 unfoldable pub names_of : List ℕ → Option Names
 names_of body = names_from body (string_at body 0)
@@ -62,8 +61,8 @@ names_of body = names_from body (string_at body 0)
 -- W7: "A Topic whose strings are cut short or ill-formed answers ERR_INVALID_DATA without a call"; "The parent's handle comes from any object of
 -- that number."
 abbrev pub create_named : Option Names → ℕ → ℕ → ℕ → Local → Move
-create_named none stream number parent l = says stream number ErrInvalidData l
-create_named (some x) stream number parent l =
+create_named None stream number parent l = says stream number ErrInvalidData l
+create_named (Some x) stream number parent l =
     if_handle (handle_at parent l)
     (λ p. asks stream number (creating (kind_byte Topic) parent) (create_topic p x.name x.type) l)
     (says stream number ErrInvalidData l)
@@ -77,8 +76,8 @@ create_with kind stream number parent call l =
 abbrev pub create_for : ObjectKind → ℕ → ℕ → ℕ → List ℕ → Local → Move
 create_for Participant stream number parent body l = asks stream number (creating (kind_byte Participant) parent) (create_participant parent) l
 create_for Topic stream number parent body l = create_named (names_of body) stream number parent l
-create_for Publisher stream number parent body l = says stream number Ok (listing number (kind_byte Publisher) none parent l)
-create_for Subscriber stream number parent body l = says stream number Ok (listing number (kind_byte Subscriber) none parent l)
+create_for Publisher stream number parent body l = says stream number status.Ok (listing number (kind_byte Publisher) None parent l)
+create_for Subscriber stream number parent body l = says stream number status.Ok (listing number (kind_byte Subscriber) None parent l)
 create_for DataWriter stream number parent body l = create_with DataWriter stream number parent create_writer l
 create_for DataReader stream number parent body l = create_with DataReader stream number parent create_reader l
 
@@ -96,12 +95,12 @@ on_create kind stream number parent body l =
 
 -- "DELETE drops its object before its call."; of a Publisher or Subscriber it "answers OK without a call"
 abbrev pub drops : ℕ → ℕ → Option ℕ → Local → Move
-drops stream number handle l = if_handle handle (λ h. asks stream number deleting (delete_entity h) (dropping number l)) (says stream number Ok (dropping number l))
+drops stream number handle l = if_handle handle (λ h. asks stream number deleting (delete_entity h) (dropping number l)) (says stream number status.Ok (dropping number l))
 
 -- W3: an object that has a dependant stays
 abbrev pub delete_found : ℕ → ℕ → Option Entry → Local → Move
-delete_found stream number none l = says stream number ErrUnknownRef l
-delete_found stream number (some e) l = cond (dependant_in l.objects e) (says stream number ErrIncompatible l) (drops stream number e.handle l)
+delete_found stream number None l = says stream number ErrUnknownRef l
+delete_found stream number (Some e) l = cond (dependant_in l.objects e) (says stream number ErrIncompatible l) (drops stream number e.handle l)
 
 abbrev pub on_delete : ℕ → ℕ → Local → Move
 on_delete stream number l = delete_found stream number (find_in l.objects number) l
@@ -115,8 +114,8 @@ on_write is_open stream number body l =
 
 -- W5: "With 16 held, it then answers ERR_RESOURCES before the bridge is called"; "a ninth stream gets no reply and no call"
 abbrev pub read_on : ℕ → ℕ → ℕ → Option KeptStream → Local → Move
-read_on stream number h none l = done l []
-read_on stream number h (some k) l = cond (leb 16 (many_held k.held)) (says stream number ErrResources l) (asks stream number reading (read_data h) l)
+read_on stream number h None l = done l []
+read_on stream number h (Some k) l = cond (leb 16 (many_held k.held)) (says stream number ErrResources l) (asks stream number reading (read_data h) l)
 
 -- "On a stream other than 0, READ_DATA of a known reader opens it"
 abbrev pub read_from : ℕ → ℕ → ℕ → Local → Move

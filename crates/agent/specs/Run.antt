@@ -1,15 +1,11 @@
 -- A run over the lent tables: the submessages from a place of the datagram on, until a bridge call is handed out or the end.
-use Rattle.std.specs.Prelude.{ℕ, zero, suc, ◌+◌, ◌-◌, Bool, true, false, cond, List, [], ◌∷◌, ◌++◌, map, ltb, length}
-use Rattle.std.proofs.Math.Option.{Option, none, some}
+use Rattle.std.specs.Prelude.{ℕ, zero, suc, ◌+◌, ◌-◌, Bool, true, false, cond, List, [], ◌∷◌, ◌++◌, map, ltb, length, Err, Ok, Result, Option, None, Some}
 use Rattle.codec.specs.Bytes.{put_bytes}
 use Rattle.codec.specs.Reading.{read_at, part_of}
 use Rattle.codec.specs.Rebuilt.{rebuilt_of}
-use Rattle.codec.specs.declared.rebuilt.Rebuilt.{Rebuilt}
-use Rattle.codec.specs.declared.rebuilt.Rebuilt.TheVariants as rebuilt
-use Rattle.codec.specs.declared.layouts.Parsed.{Parsed}
-use Rattle.codec.specs.declared.layouts.Parsed.TheVariants as parsed
 use Rattle.codec.specs.declared.submessages.AcknackPayload.{AcknackPayload}
-use Rattle.codec.specs.declared.submessages.StatusCode.TheVariants.{Ok, ErrResources}
+use Rattle.codec.specs.declared.submessages.StatusCode.TheVariants as status
+use Rattle.codec.specs.declared.submessages.StatusCode.TheVariants.{ErrResources}
 use Rattle.streams.specs.Acknowledged.{repeats}
 use Rattle.sessions.specs.Table.{named_of, touched_rows}
 use Rattle.sessions.specs.Opening.{created_of}
@@ -19,10 +15,6 @@ use Rattle.sessions.specs.Calls.{with_sessions, create_tables, gather_tables}
 use Rattle.sessions.specs.declared.fragments.Gathered.{Gathered}
 use Rattle.sessions.specs.declared.fragments.Gathered.TheVariants as gathered
 use Rattle.sessions.specs.View.{Tables}
-use Rattle.sessions.specs.declared.opening.Created.{Created}
-use Rattle.sessions.specs.declared.opening.Created.TheVariants as created
-use Rattle.sessions.specs.declared.table.Named.{Named}
-use Rattle.sessions.specs.declared.table.Named.TheVariants.{Live, NotLive, Refused}
 use Rattle.moves.specs.Moves.{move_bytes}
 use Rattle.moves.specs.Rows.{Rows, rows, asks_of, blank_asked, handled_move, handled_rows}
 use Rattle.moves.specs.RowsStreams.{read_of}
@@ -37,6 +29,10 @@ use Rattle.agent.specs.declared.turn.Ran.{Ran}
 use Rattle.agent.specs.declared.turn.Stop.{Stop}
 use Rattle.agent.specs.declared.turn.Taken.{Taken}
 use Rattle.agent.specs.declared.turn.Stop.TheVariants as stop
+use Rattle.codec.specs.declared.layouts.Cursor.{Cursor}
+use Rattle.codec.specs.declared.refusals.Refusal.{Refusal}
+use Rattle.codec.specs.declared.layouts.Span.{Span}
+use Rattle.codec.specs.declared.submessages.Submessage.{Submessage}
 
 -- ---- replies in the lent output, each written only where it fits
 
@@ -73,22 +69,22 @@ abbrev pub settled : ℕ → ℕ → ℕ → Move → Ran
 settled next at wrote m = record { next = next; at = at; wrote = wrote; stop = stop_of m }
 
 -- CREATE_CLIENT: "with the new id and OK, or id 0 and ERR_RESOURCES"; the pointer goes on from the id taken
-abbrev pub greeting : Created → Move
-greeting (created.Opened id next) = Greets id Ok
-greeting (created.Refused r) = Greets 0 ErrResources
+abbrev pub greeting : Result (ℕ × ℕ) Refusal → Move
+greeting (Ok (id, next)) = Greets id status.Ok
+greeting (Err r) = Greets 0 ErrResources
 
-abbrev pub greeting_bytes : Created → List ℕ
+abbrev pub greeting_bytes : Result (ℕ × ℕ) Refusal → List ℕ
 greeting_bytes c = move_bytes 0 0 (greeting c)
 
-abbrev pub pointer_of : Created → ℕ → ℕ
-pointer_of (created.Opened id n) next = n
-pointer_of (created.Refused r) next = next
+abbrev pub pointer_of : Result (ℕ × ℕ) Refusal → ℕ → ℕ
+pointer_of (Ok (id, n)) next = n
+pointer_of (Err r) next = next
 
-abbrev pub id_opened : Created → Option ℕ
-id_opened (created.Opened id next) = some id
-id_opened (created.Refused r) = none
+abbrev pub id_opened : Result (ℕ × ℕ) Refusal → Option ℕ
+id_opened (Ok (id, next)) = Some id
+id_opened (Err r) = None
 
-abbrev pub greeted : Frame → Ran → ℕ → Created → Ran
+abbrev pub greeted : Frame → Ran → ℕ → Result (ℕ × ℕ) Refusal → Ran
 greeted f r at c = settled (pointer_of c r.next) at (counted f.room r.wrote (length (greeting_bytes c))) (greeting c)
 
 abbrev pub opening : Frame → Tables → Ran → ℕ → ℕ → Turned
@@ -127,17 +123,17 @@ acted f r at m t h =
     let rs = replies_by f t.sessions t.streams h m in
     record { ran = settled r.next at (count_replies f.room r.wrote rs) m; rows = t; replies = rs }
 
-abbrev pub is_live : Named → Bool
-is_live Live = true
-is_live NotLive = false
-is_live (Refused x) = false
+abbrev pub is_live : Result Bool Refusal → Bool
+is_live (Ok true) = true
+is_live (Ok false) = false
+is_live (Err x) = false
 
 -- what was read at a place, taken apart: what it asks for, its body, and the place behind it; where nothing was, the end
-abbrev pub taken_of : Parsed → ℕ → Taken
-taken_of (parsed.Sub m body next) len = record { asked = asks_of m; body = body; at = next.at }
-taken_of (parsed.Refused x) len = record { asked = blank_asked Unread; body = record { start = 0; len = 0 }; at = len }
+abbrev pub taken_of : Result (Submessage × Span × Cursor) Refusal → ℕ → Taken
+taken_of (Ok (m, body, next)) len = record { asked = asks_of m; body = body; at = next.at }
+taken_of (Err x) len = record { asked = blank_asked Unread; body = record { start = 0; len = 0 }; at = len }
 
-abbrev pub delivered : Named → Frame → Rows → List ℕ → List ℕ → Ran → Taken → Acted
+abbrev pub delivered : Result Bool Refusal → Frame → Rows → List ℕ → List ℕ → Ran → Taken → Acted
 delivered w f t h d r x =
     let u = touched_in f t in
     cond (is_live w)
@@ -198,9 +194,9 @@ whole_len (gathered.Held b) = 0
 whole_len (gathered.Whole n) = n
 
 -- s: the rebuilt bytes, n of them; at: the place behind the FRAGMENT in its datagram
-abbrev pub left_by : Rebuilt → Frame → List ℕ → List ℕ → ℕ → Ran → ℕ → Rows → Acted
-left_by (rebuilt.Subs k) f h s n r at t = left_acted (work_at f h s (entered_ran r) t) n at
-left_by (rebuilt.Refused x) f h s n r at t = record { ran = passed r at; rows = t; replies = [] }
+abbrev pub left_by : Result ℕ Refusal → Frame → List ℕ → List ℕ → ℕ → Ran → ℕ → Rows → Acted
+left_by (Ok k) f h s n r at t = left_acted (work_at f h s (entered_ran r) t) n at
+left_by (Err x) f h s n r at t = record { ran = passed r at; rows = t; replies = [] }
 
 abbrev pub with_acted : Tables → Acted → Turned
 with_acted t a = record { ran = a.ran; tables = with_rows t a.rows; replies = a.replies }
@@ -210,6 +206,14 @@ whole_turned f t n r at = let s = rebuilt_part t.rebuilt n in with_acted t (left
 
 abbrev pub touched_tables : Frame → Tables → Tables
 touched_tables f t = with_sessions t (touched_rows t.sessions f.session_id f.moment.time)
+
+-- the stores with the FRAGMENT kept, and how many bytes it makes whole
+abbrev pub gathers : Frame → Tables → List ℕ → Taken → Tables
+gathers f t d x = gather_tables (touched_tables f t) f.session_id x.asked.first x.asked.second (part_of d x.body)
+
+abbrev pub gathered_len : Frame → Tables → List ℕ → Taken → ℕ
+gathered_len f t d x =
+    let u = touched_tables f t in whole_len (gathered u.sessions u.parts u.lengths u.rebuilt f.session_id x.asked.first x.asked.second (part_of d x.body))
 
 unfoldable pub fragment_turned : Frame → Tables → List ℕ → Ran → Taken → Turned
 fragment_turned f t d r x =
@@ -229,7 +233,7 @@ sub_turned Other f t d r x = with_acted t (delivered (named_of t.sessions f.sess
 sub_turned Unread f t d r x = record { ran = passed r x.at; tables = t; replies = [] }
 
 -- the datagram was checked before, so that a submessage is always read
-abbrev pub turned_by : Parsed → Frame → Tables → List ℕ → Ran → Turned
+abbrev pub turned_by : Result (Submessage × Span × Cursor) Refusal → Frame → Tables → List ℕ → Ran → Turned
 turned_by p f t d r = let x = taken_of p (length d) in sub_turned x.asked.opening f t d r x
 
 unfoldable pub turned : Frame → Tables → List ℕ → Ran → Turned

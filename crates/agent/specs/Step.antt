@@ -1,6 +1,5 @@
 -- The agent: a state, and what each call of the host does to it.
-use Rattle.std.specs.Prelude.{ℕ, zero, suc, Bool, true, false, cond, List, [], ◌∷◌, ◌++◌, map, eqb, ltb, leb, length}
-use Rattle.std.proofs.Math.Option.{Option, none, some}
+use Rattle.std.specs.Prelude.{ℕ, zero, suc, Bool, true, false, cond, List, [], ◌∷◌, ◌++◌, map, eqb, ltb, leb, length, Option, None, Some}
 use Rattle.codec.specs.Bytes.{put_at}
 use Rattle.codec.specs.Answers.{Answer as Read, gives, refused_as}
 use Rattle.codec.specs.Grammar.{Said, reading}
@@ -43,7 +42,7 @@ pub record Agent : Type 0 where
 -- ---- set-up: "An empty agent is one just set up."
 
 abbrev pub empty_agent : ℕ → ℕ → (ℕ → ℕ → Bool) → Agent
-empty_agent max timeout is_open = record { max = max; timeout = timeout; is_open = is_open; tables = record { next = 1; at = λ id. none }; waits = none }
+empty_agent max timeout is_open = record { max = max; timeout = timeout; is_open = is_open; tables = record { next = 1; at = λ id. None }; waits = None }
 
 -- ---- opening a session
 
@@ -53,17 +52,17 @@ with_id id x at i = cond (eqb i id) x (at i)
 
 -- "the next free id": of n ids from i on the first that is not live
 unfoldable pub next_free : (ℕ → Option Local) → ℕ → ℕ → Option ℕ
-next_free at i zero = none
-next_free at i (suc n) = elim (at i) [ none ↦ some i | some l ↦ next_free at (after i) n ]
+next_free at i zero = None
+next_free at i (suc n) = elim (at i) [ None ↦ Some i | Some l ↦ next_free at (after i) n ]
 
 -- 6, "`max_clients` sessions live", is none here: "Inside the agent, 6 becomes the STATUS reply above"
 unfoldable pub chosen : ℕ → Tables → Option ℕ
-chosen max t = cond (ltb (live_from (λ i. absent (t.at i)) 1 255) max) (next_free t.at t.next 255) none
+chosen max t = cond (ltb (live_from (λ i. absent (t.at i)) 1 255) max) (next_free t.at t.next 255) None
 
 -- "`create_session` takes the next free id, and its pointer goes on from there"
 abbrev pub open_as : Opening → Tables → Option ℕ → Tables
-open_as o t none = t
-open_as o t (some id) = record { next = after id; at = with_id id (some (start id o)) t.at }
+open_as o t None = t
+open_as o t (Some id) = record { next = after id; at = with_id id (Some (start id o)) t.at }
 
 -- ---- running the submessages of a datagram
 
@@ -86,23 +85,23 @@ abbrev pub behind : List Reply → Ran → Ran
 behind rs r = record { tables = r.tables; replies = rs ++ r.replies; stop = r.stop }
 
 abbrev pub keep : ℕ → Local → Tables → Tables
-keep id l t = record { next = t.next; at = with_id id (some l) t.at }
+keep id l t = record { next = t.next; at = with_id id (Some l) t.at }
 
 -- a session's move: its replies and on with the rest, or its call, and the rest waits
 abbrev pub act : ℕ → List (Sub Opening In) → Tables → Working → (Tables → Ran) → Ran
 act id rest t (done l rs) go = behind (map (replied id) rs) (go (keep id l t))
 act id rest t (calls l rs c p) go =
-    record { tables = keep id l t; replies = map (replied id) rs; stop = some (c, record { session = id; pending = p; rest = rest }) }
+    record { tables = keep id l t; replies = map (replied id) rs; stop = Some (c, record { session = id; pending = p; rest = rest }) }
 
 -- "No such session: no reply."
 abbrev pub deliver : ℕ → List (Sub Opening In) → Tables → Option Local → (Local → Working) → (Tables → Ran) → Ran
-deliver id rest t none rule go = go t
-deliver id rest t (some l) rule go = act id rest t (rule l) go
+deliver id rest t None rule go = go t
+deliver id rest t (Some l) rule go = act id rest t (rule l) go
 
 -- the submessages in order, until a bridge call is handed out or the end: "CREATE_CLIENT always opens a new session, whatever the key";
 -- "The header's session id decides for every other submessage".
 unfoldable pub run : ℕ → ℕ → List (Sub Opening In) → Tables → Ran
-run max id [] t = record { tables = t; replies = []; stop = none }
+run max id [] t = record { tables = t; replies = []; stop = None }
 run max id (opens o ∷ rest) t = behind (opened (chosen max t) ∷ []) (run max id rest (open_as o t (chosen max t)))
 run max id (names i ∷ rest) t = deliver id rest t (t.at id) (λ l. handle l i) (λ t'. run max id rest t')
 
@@ -146,12 +145,12 @@ joined_replies [] = []
 joined_replies (r ∷ rs) = bytes_of r ++ joined_replies rs
 
 abbrev pub call_of : Option (Call × Open) → Option Call
-call_of none = none
-call_of (some x) = some x.0
+call_of None = None
+call_of (Some x) = Some x.0
 
 abbrev pub open_of : Option (Call × Open) → Option Open
-open_of none = none
-open_of (some x) = some x.1
+open_of None = None
+open_of (Some x) = Some x.1
 
 abbrev pub with_tables : Agent → Tables → Option Open → Agent
 with_tables st t w = record { max = st.max; timeout = st.timeout; is_open = st.is_open; tables = t; waits = w }
@@ -175,12 +174,12 @@ too_long p failed = false
 -- 14, W5: "A reply that would be held is refused as 14 if over 1,024 bytes", its header counted; and 01's "17th held number": "A number recorded
 -- again replaces its message"
 abbrev pub crowded : Option KeptStream → Bool
-crowded none = false
-crowded (some k) = cond (present (k.held k.next)) false (leb 16 (many_held k.held))
+crowded None = false
+crowded (Some k) = cond (present (k.held k.next)) false (leb 16 (many_held k.held))
 
 abbrev pub crowded_in : ℕ → Option Local → Bool
-crowded_in stream none = false
-crowded_in stream (some l) = crowded (stream_in l.streams stream)
+crowded_in stream None = false
+crowded_in stream (Some l) = crowded (stream_in l.streams stream)
 
 abbrev pub over_held : Open → Answer → Tables → Bool
 over_held w (sample d) t =
@@ -193,37 +192,37 @@ over_held w no_sample t = false
 over_held w failed t = false
 
 abbrev pub is_live : Option Local → Bool
-is_live none = false
-is_live (some l) = true
+is_live None = false
+is_live (Some l) = true
 
 -- "a sweep when it is expired, ends it"
 abbrev pub stays : ℕ → ℕ → Option Local → Option Local
-stays timeout now none = none
-stays timeout now (some l) = cond (expired l now timeout) none (some l)
+stays timeout now None = None
+stays timeout now (Some l) = cond (expired l now timeout) None (Some l)
 
 -- "Sweeps list ids ascending."
 unfoldable pub lapsed_ids : ℕ → ℕ → (ℕ → Option Local) → List ℕ
 lapsed_ids timeout now at = expired_from (λ i. lapsed now timeout (at i)) 1 255
 
 abbrev pub with_locals : Agent → (ℕ → Option Local) → Agent
-with_locals st at = with_tables st (record { next = st.tables.next; at = at }) none
+with_locals st at = with_tables st (record { next = st.tables.next; at = at }) None
 
 -- W8's 20, "weekday over 6 or minute over 1,439, after 15", and before 1 to 5. 15, first: "While a bridge call is open, datagrams, removals and sweeps are out of turn"; "answer, no call open", "or answer of another kind"
 abbrev pub stepped : Option Open → Agent → Event → List ℕ → Did
-stepped none st (datagram given bytes) out = cond (is_minute given.day given.minute) (begin st out given (reading bytes)) (refuse st out 20 0)
-stepped none st (answer a) out = refuse st out 15 0
-stepped none st (removal id) out = finish st out (with_locals st (with_id id none st.tables.at)) [] (removed (is_live (st.tables.at id)))
-stepped none st (sweep now) out =
+stepped None st (datagram given bytes) out = cond (is_minute given.day given.minute) (begin st out given (reading bytes)) (refuse st out 20 0)
+stepped None st (answer a) out = refuse st out 15 0
+stepped None st (removal id) out = finish st out (with_locals st (with_id id None st.tables.at)) [] (removed (is_live (st.tables.at id)))
+stepped None st (sweep now) out =
     let ids = lapsed_ids st.timeout now st.tables.at in
     finish st out (with_locals st (λ i. stays st.timeout now (st.tables.at i))) ids (swept ids)
-stepped (some w) st (datagram given bytes) out = refuse st out 15 0
-stepped (some w) st (answer a) out =
+stepped (Some w) st (datagram given bytes) out = refuse st out 15 0
+stepped (Some w) st (answer a) out =
     cond (fits w.pending.asked.task a)
     (cond (too_long w.pending.asked a) (refuse st out 12 0)
     (cond (over_held w a st.tables) (refuse st out 14 0) (settle st out (continued st.max w a st.tables))))
     (refuse st out 15 0)
-stepped (some w) st (removal id) out = refuse st out 15 0
-stepped (some w) st (sweep now) out = refuse st out 15 0
+stepped (Some w) st (removal id) out = refuse st out 15 0
+stepped (Some w) st (sweep now) out = refuse st out 15 0
 
 unfoldable pub step : Agent → Event → List ℕ → Did
 step st e out = stepped st.waits st e out

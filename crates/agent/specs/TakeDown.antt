@@ -1,6 +1,5 @@
 -- The promises of document 02's W3: what has a dependant stays; what the listing shows; and a session is taken down along its listing.
-use Rattle.std.specs.Prelude.{ℕ, ◌≡◌, true, List, [], ◌∷◌}
-use Rattle.std.proofs.Math.Option.{Option, none, some}
+use Rattle.std.specs.Prelude.{ℕ, ◌≡◌, true, List, [], ◌∷◌, Option, None, Some}
 use Rattle.codec.specs.Bytes.{put_bytes}
 use Rattle.codec.specs.declared.submessages.ObjectKind.{ObjectKind}
 use Rattle.codec.specs.declared.submessages.StatusCode.TheVariants.{ErrIncompatible}
@@ -27,8 +26,8 @@ TakesDown stream es (n ∷ ns) = ((l : Local) → l.objects ≡ es → on_delete
 
 -- "An id that isn't live has none."
 abbrev pub numbers_shown : Option Local → List ℕ
-numbers_shown none = []
-numbers_shown (some l) = in_order l.objects
+numbers_shown None = []
+numbers_shown (Some l) = in_order l.objects
 
 -- the answer, 13 or how many, and the output: the numbers at its start, and what stood behind them
 pub record Shows (t : Tables) (id : ℕ) (out ns : List ℕ) : Type 0 where
@@ -40,6 +39,6 @@ pub record Right (l : Local) : Type 0 where
   pub once : EachOnce l.objects (in_order l.objects)
   pub ordered : Ordered l.objects (in_order l.objects)
   -- every kind is one of the six, so that its rank is the kind itself
-  pub own_rank : (n : ℕ) (e : Entry) → find_in l.objects n ≡ some e → rank_of e.kind ≡ e.kind
+  pub own_rank : (n : ℕ) (e : Entry) → find_in l.objects n ≡ Some e → rank_of e.kind ≡ e.kind
   pub dependants_first : DependantsFirst l.objects (in_order l.objects)
   pub takes_down : (stream : ℕ) → TakesDown stream l.objects (in_order l.objects)

@@ -1,12 +1,9 @@
 -- The agent that a host calls, as `isolation` speaks of one: the record and the lent tables, and what the entry points do to them, but for the listing and the question for the first open minute, which change nothing,
 -- by the very definitions that their contracts cite.
-use Rattle.std.specs.Prelude.{ℕ, ◌<◌, true, false, List, [], eqb, ltb, cond, length, take}
-use Rattle.std.proofs.Math.Option.{Option, none, some}
+use Rattle.std.specs.Prelude.{ℕ, ◌<◌, true, false, List, [], eqb, ltb, cond, length, take, Bool, Err, None, Ok, Result, Some, Option}
 use Rattle.codec.specs.Bytes.{AllBytes}
 use Rattle.codec.specs.Answers.{Answer, gives, refusal}
 use Rattle.codec.specs.Refusals.{number_of, byte_of}
-use Rattle.codec.specs.declared.bytes.Written.{Written}
-use Rattle.codec.specs.declared.bytes.Written.TheVariants as written
 use Rattle.isolation.specs.Claim as claim
 use Rattle.hours.specs.Windows.{Window, is_open}
 use Rattle.hours.specs.Week.{kept_hours, open_in}
@@ -22,17 +19,13 @@ use Rattle.agent.specs.Claim.{host_call, result_of}
 use Rattle.agent.specs.Lent.{rebuilt_part}
 use Rattle.agent.specs.Place.{subs_at, ins_at}
 use Rattle.agent.specs.Host.{Leaves, set_up_judged, set_up_as, incoming_of, answer_of, idle_of, removed_by, removed_rows, swept_by, swept_rows, swept_out}
-use Rattle.agent.specs.declared.agent.AgentSetUp.{AgentSetUp}
-use Rattle.agent.specs.declared.agent.AgentSetUp.TheVariants as set-up
-use Rattle.agent.specs.declared.agent.Removed.{Removed}
-use Rattle.agent.specs.declared.agent.Removed.TheVariants as removed
 use Rattle.agent.specs.declared.process.Outcome.{Outcome}
-use Rattle.agent.specs.declared.process.Outcome.TheVariants.{Replied, Called, Refused}
+use Rattle.agent.specs.declared.process.Outcome.TheVariants.{Replied, Called}
 use Rattle.moves.specs.declared.proxy.BridgeAnswer.{BridgeAnswer}
 use Rattle.agent.specs.declared.state.Agent.{Agent}
 use Rattle.agent.specs.declared.state.Given.{Given}
-use Rattle.agent.specs.declared.state.Waiting.{Waiting}
-use Rattle.agent.specs.declared.state.Waiting.TheVariants as waiting
+use Rattle.agent.specs.declared.state.Pending.{Pending}
+use Rattle.codec.specs.declared.refusals.Refusal.{Refusal}
 
 -- ---- the state: "Between calls the host keeps tables and lent stores as the last call left them", and the datagram whose call is open
 
@@ -58,36 +51,36 @@ pub record Did : Type 0 where
   pub result : step.Result
 
 -- the datagram of a call that is handed out is kept
-abbrev pub lent_after : Outcome → List ℕ → List ℕ → List ℕ
-lent_after (Called c n) bytes old = bytes
-lent_after (Replied n) bytes old = old
-lent_after (Refused r) bytes old = old
+abbrev pub lent_after : Result Outcome Refusal → List ℕ → List ℕ → List ℕ
+lent_after (Ok (Called c n)) bytes old = bytes
+lent_after (Ok (Replied n)) bytes old = old
+lent_after (Err r) bytes old = old
 
 -- the answer in document 01's numbers, with the replies one by one
-abbrev pub result_by : List ℕ → List Reply → Outcome → step.Result
-result_by d rs (Replied n) = step.ran rs none
-result_by d rs (Called c n) = step.ran rs (some (call_as d c))
-result_by d rs (Refused r) = step.refused (number_of r) (byte_of r)
+abbrev pub result_by : List ℕ → List Reply → Result Outcome Refusal → step.Result
+result_by d rs (Ok (Replied n)) = step.ran rs None
+result_by d rs (Ok (Called c n)) = step.ran rs (Some (call_as d c))
+result_by d rs (Err r) = step.refused (number_of r) (byte_of r)
 
 -- the bytes that an open call shows parts of: the datagram's, or (W6) the rebuilt ones, in their place
-abbrev pub call_bytes : Waiting → List ℕ → List ℕ → List ℕ
-call_bytes waiting.Nothing d rebuilt = d
-call_bytes (waiting.Call p) d rebuilt = cond (eqb p.left_end 0) d (rebuilt_part rebuilt p.left_end)
+abbrev pub call_bytes : Option Pending → List ℕ → List ℕ → List ℕ
+call_bytes None d rebuilt = d
+call_bytes (Some p) d rebuilt = cond (eqb p.left_end 0) d (rebuilt_part rebuilt p.left_end)
 
 abbrev pub did_by : List ℕ → List ℕ → List ℕ → Leaves → Did
 did_by hours d old x =
     let shown = call_bytes x.processed.agent.waits d x.tables.rebuilt in
     record { state = record { agent = x.processed.agent; tables = x.tables; hours = hours; lent = lent_after x.processed.outcome d old }; out = x.out; result = result_by shown x.replies x.processed.outcome }
 
-abbrev pub removed_result : Removed → step.Result
-removed_result removed.Session = step.removed true
-removed_result removed.NotLive = step.removed false
-removed_result (removed.Refused r) = step.refused (number_of r) (byte_of r)
+abbrev pub removed_result : Result Bool Refusal → step.Result
+removed_result (Ok true) = step.removed true
+removed_result (Ok false) = step.removed false
+removed_result (Err r) = step.refused (number_of r) (byte_of r)
 
 -- the ids that stand in the output
-abbrev pub swept_result : List ℕ → Written → step.Result
-swept_result out (written.Bytes n) = step.swept (take n out)
-swept_result out (written.Refused r) = step.refused (number_of r) (byte_of r)
+abbrev pub swept_result : List ℕ → Result ℕ Refusal → step.Result
+swept_result out (Ok n) = step.swept (take n out)
+swept_result out (Err r) = step.refused (number_of r) (byte_of r)
 
 abbrev pub with_rows : State → List (List ℕ) → State
 with_rows st rows = record { agent = st.agent; tables = with_sessions st.tables rows; hours = st.hours; lent = st.lent }
@@ -107,14 +100,14 @@ step_of st (sweep time) out =
 
 -- what the tables keep of an id's session: ids are bytes, and rows behind the 256th are never read
 abbrev pub session_in : Tables → ℕ → Option Local
-session_in t id = cond (ltb id 256) (local_of t id) none
+session_in t id = cond (ltb id 256) (local_of t id) None
 
-abbrev pub opens_as : List ℕ → List ℕ → Waiting → Option step.Open
-opens_as d rebuilt waiting.Nothing = none
-opens_as d rebuilt (waiting.Call p) =
+abbrev pub opens_as : List ℕ → List ℕ → Option Pending → Option step.Open
+opens_as d rebuilt None = None
+opens_as d rebuilt (Some p) =
     let asked : Asked = record { stream = p.stream_id; number = p.number.0; task = task_as p.task } in
     let left = ins_at p.moment p.stream_id (rebuilt_part rebuilt p.left_end) p.left_at in
-    some (record { session = p.session_id; pending = record { asked = asked; left = left }; rest = subs_at p.moment p.stream_id d p.at })
+    Some (record { session = p.session_id; pending = record { asked = asked; left = left }; rest = subs_at p.moment p.stream_id d p.at })
 
 -- the same state as the step over lists has it
 abbrev pub agent_of : State → step.Agent
@@ -132,13 +125,13 @@ pub record Hosted : Type 0 where
   pub out : List ℕ
 
 -- what `setup` answers of tables, of the store of the week's minutes and of the windows that it takes, and what it leaves: "An empty agent is one just set up."
-abbrev pub set_up_with : Tables → List ℕ → List Window → ℕ → ℕ → AgentSetUp
+abbrev pub set_up_with : Tables → List ℕ → List Window → ℕ → ℕ → Result Agent Refusal
 set_up_with t hours ws max timeout = set_up_as (set_up_judged t (length hours) ws max) max timeout
 
 -- its answer in document 01's numbers
-abbrev pub set_up_answer : AgentSetUp → Answer Agent
-set_up_answer (set-up.Ready a) = gives a
-set_up_answer (set-up.Refused r) = refusal r
+abbrev pub set_up_answer : Result Agent Refusal → Answer Agent
+set_up_answer (Ok a) = gives a
+set_up_answer (Err r) = refusal r
 
 abbrev pub empty_of : Tables → List ℕ → List Window → ℕ → Agent → State
 empty_of t hours ws max a =

@@ -1,6 +1,6 @@
 // The host's seven entry points. A datagram and an answer take the `Agent` by value and hand it back, a removal and a sweep leave
 // it as it is, a listing and the question for the first open minute need none; tables and output are lent, and a refused call changes neither.
-ghost use Rattle.std.specs.Prelude.{◌≡◌, cond, length};
+ghost use Rattle.std.specs.Prelude.{◌≡◌, length};
 ghost use Rattle.hours.specs.Windows.{windows_of};
 ghost use Rattle.hours.specs.Week.{kept_hours, first_open_of};
 ghost use Rattle.sessions.specs.Setup.{leaves};
@@ -11,62 +11,23 @@ ghost use Rattle.agent.specs.Host.{set_up_judged, set_up_as, incoming_of, answer
 
 use crate::judge::{Input, sound_record};
 use crate::process::{Processed, process};
-use crate::state::{Agent, Given, Waiting};
-use codec::bytes::Written;
+use crate::state::{Agent, Given};
 use codec::refusals::Refusal;
 use hours::week;
-use hours::week::{FirstOpen, keep_windows};
-use hours::windows::{WindowRow, Windows, check_windows};
+use hours::week::keep_windows;
+use hours::windows::{WindowRow, check_windows};
 use moves::proxy::BridgeAnswer;
 use sessions::need::stores_fit;
-use sessions::object_list::Listed;
 use sessions::objects::Object;
-use sessions::setup::{SetUp, set_up};
+use sessions::setup::set_up;
 use sessions::stream_rows::StreamRow;
-use sessions::table::{Named, SessionRow};
+use sessions::table::SessionRow;
 use sessions::{object_list, sweep, table};
 
-#[derive(Clone, Copy)]
-pub enum AgentSetUp {
-    Ready(Agent),
-    Refused(Refusal),
-}
-
-#[derive(Clone, Copy)]
-pub enum Removed {
-    Session,
-    NotLive,
-    Refused(Refusal),
-}
-
-fn ready(s: SetUp, max_clients: usize, timeout_ms: u64) -> AgentSetUp
-    ensures { result ≡ set_up_as s max_clients timeout_ms }
-{
-    match s {
-        SetUp::Ready { next } => AgentSetUp::Ready(Agent {
-            max_clients,
-            timeout_ms,
-            next,
-            waits: Waiting::Nothing,
-        }),
-        SetUp::Refused(x) => AgentSetUp::Refused(x),
-    }
-}
-
-// 16 of every store, then 19.
-fn may_set_up(fit: bool, checked: Windows) -> Windows
-    ensures { result ≡ cond fit checked (Windows.Refused Refusal.OverLimit) }
-{
-    if fit {
-        checked
-    } else {
-        Windows::Refused(Refusal::OverLimit)
-    }
-}
-
-// An empty agent over the lent tables, whatever stood in them; of the stores of held messages and
+// 16 of every store, then 19, before anything is written. An empty agent over the lent tables, whatever stood in them; of the stores of held messages and
 // fragments and of the place of rebuilt bytes only their lengths are asked. What the windows open is kept in `hours` until
 // the next set-up (document 02, W8).
+#[tactic(auto, unfolding(crate::specs::Host::set_up_judged, sessions::specs::Setup::set_up_of))]
 pub fn setup(
     sessions: &mut [SessionRow],
     streams: &mut [StreamRow],
@@ -79,7 +40,7 @@ pub fn setup(
     windows: &[WindowRow],
     max_clients: usize,
     timeout_ms: u64,
-) -> AgentSetUp
+) -> Result<Agent, Refusal>
     ensures { (result ≡ set_up_as (set_up_judged (lent sessions.old streams.old objects.old held.now parts.now lengths.now rebuilt.now) (length hours.old) (windows_of windows.now) max_clients) max_clients timeout_ms)
         × (sessions.new ≡ (set_up_tables (set_up_judged (lent sessions.old streams.old objects.old held.now parts.now lengths.now rebuilt.now) (length hours.old) (windows_of windows.now) max_clients) (lent sessions.old streams.old objects.old held.now parts.now lengths.now rebuilt.now)).sessions)
         × (streams.new ≡ (set_up_tables (set_up_judged (lent sessions.old streams.old objects.old held.now parts.now lengths.now rebuilt.now) (length hours.old) (windows_of windows.now) max_clients) (lent sessions.old streams.old objects.old held.now parts.now lengths.now rebuilt.now)).streams)
@@ -96,25 +57,27 @@ pub fn setup(
         rebuilt.len(),
         max_clients,
     );
-    let checked = check_windows(windows, hours.len());
-    let may = may_set_up(fit, checked);
-    match may {
-        Windows::Fit => {
-            keep_windows(hours, windows);
-            let s = set_up(
-                sessions,
-                streams,
-                objects,
-                held.len(),
-                parts.len(),
-                lengths.len(),
-                rebuilt.len(),
-                max_clients,
-            );
-            ready(s, max_clients, timeout_ms)
-        }
-        Windows::Refused(x) => AgentSetUp::Refused(x),
+    if !fit {
+        return Err(Refusal::OverLimit);
     }
+    check_windows(windows, hours.len())?;
+    keep_windows(hours, windows);
+    let next = set_up(
+        sessions,
+        streams,
+        objects,
+        held.len(),
+        parts.len(),
+        lengths.len(),
+        rebuilt.len(),
+        max_clients,
+    )?;
+    Ok(Agent {
+        max_clients,
+        timeout_ms,
+        next,
+        waits: None,
+    })
 }
 
 // A datagram: its replies stand one behind the other at the start of the output.
@@ -212,48 +175,26 @@ pub fn process_answer(
     )
 }
 
-// Whether a removal or a sweep may run.
-#[derive(Clone, Copy)]
-enum Idle {
-    Free,
-    Refused(Refusal),
-}
-
 // 15: "While a bridge call is open, .. removals and sweeps are out of turn"; then 16, of the record.
-fn is_idle(agent: Agent) -> Idle
+fn is_idle(agent: Agent) -> Result<(), Refusal>
     ensures { result ≡ idle_of agent.waits agent }
 {
-    let waits = agent.waits;
-    match waits {
-        Waiting::Nothing => if sound_record(agent) {
-            Idle::Free
-        } else {
-            Idle::Refused(Refusal::OverLimit)
-        },
-        Waiting::Call(_) => Idle::Refused(Refusal::OutOfTurn),
+    if agent.waits.is_some() {
+        return Err(Refusal::OutOfTurn);
     }
-}
-
-fn removed_as(n: Named) -> Removed
-    ensures { result ≡ removed_as n }
-{
-    match n {
-        Named::Live => Removed::Session,
-        Named::NotLive => Removed::NotLive,
-        Named::Refused(x) => Removed::Refused(x),
+    if !sound_record(agent) {
+        return Err(Refusal::OverLimit);
     }
+    Ok(())
 }
 
 // Ends a session; its objects are forgotten without a bridge call.
-pub fn remove_session(sessions: &mut [SessionRow], agent: Agent, id: u8) -> Removed
+pub fn remove_session(sessions: &mut [SessionRow], agent: Agent, id: u8) -> Result<bool, Refusal>
     ensures { (result ≡ removed_by (idle_of agent.waits agent) sessions.old id)
         × (sessions.new ≡ removed_rows (idle_of agent.waits agent) sessions.old id) }
 {
-    let i = is_idle(agent);
-    match i {
-        Idle::Free => removed_as(table::remove(sessions, id)),
-        Idle::Refused(x) => Removed::Refused(x),
-    }
+    is_idle(agent)?;
+    table::remove(sessions, id)
 }
 
 // A sweep: ends the sessions that are expired, and lists their ids ascending at the start of the output.
@@ -262,21 +203,23 @@ pub fn evict_expired(
     out: &mut [u8],
     agent: Agent,
     time: u64,
-) -> Written
+) -> Result<usize, Refusal>
     ensures { (result ≡ swept_by (idle_of agent.waits agent) agent sessions.old time out.old)
         × (sessions.new ≡ swept_rows (idle_of agent.waits agent) agent sessions.old time out.old)
         × (out.new ≡ swept_out (idle_of agent.waits agent) agent sessions.old time out.old) }
 {
-    let i = is_idle(agent);
-    match i {
-        Idle::Free => sweep::evict_expired(sessions, time, agent.timeout_ms, out),
-        Idle::Refused(x) => Written::Refused(x),
-    }
+    is_idle(agent)?;
+    sweep::evict_expired(sessions, time, agent.timeout_ms, out)
 }
 
 // The listing of a session (document 02, W3): the numbers of its objects, dependants before what they depend on, at the start of the output. It
 // only reads, so that it is never out of turn.
-pub fn list_objects(sessions: &[SessionRow], objects: &[Object], out: &mut [u16], id: u8) -> Listed
+pub fn list_objects(
+    sessions: &[SessionRow],
+    objects: &[Object],
+    out: &mut [u16],
+    id: u8,
+) -> Result<usize, Refusal>
     ensures { (result ≡ list_of sessions.now objects.now id out.old)
         × (out.new ≡ list_out sessions.now objects.now id out.old) }
 {
@@ -284,7 +227,7 @@ pub fn list_objects(sessions: &[SessionRow], objects: &[Object], out: &mut [u16]
 }
 
 // The first open minute at or after one, round the week (document 02, W8). It only reads, so that it is never out of turn.
-pub fn first_open(hours: &[u8], day: u8, minute: u16) -> FirstOpen
+pub fn first_open(hours: &[u8], day: u8, minute: u16) -> Result<Option<(u8, u16)>, Refusal>
     ensures { result ≡ first_open_of hours.now day minute }
 {
     week::first_open(hours, day, minute)

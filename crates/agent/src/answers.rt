@@ -8,18 +8,22 @@ ghost use Rattle.sessions.specs.Sending.{sent_streams, sent_held};
 ghost use Rattle.agent.specs.Step.{joined_replies};
 ghost use Rattle.agent.specs.Run.{put_replies};
 ghost use Rattle.agent.specs.Answered.{says_fits, sequence_of, says_bytes, says_streams, says_held};
-ghost use Rattle.agent.specs.Host.{answers_now, told_by, begun_by, begun_sessions, begun_streams, begun_objects, begun_held, resumes_fit};
+ghost use Rattle.agent.specs.Host.{answers_now, told_by, begun_by, begun, Prepared};
+ghost use Rattle.agent.specs.Stores.{stores_of, SamePlaces};
 
-use crate::judge::Resumes;
+use crate::judge::Start;
 use crate::replies::{put_status, reply_data};
+use crate::stores::Stores;
 use crate::turn::Frame;
 use codec::bytes::put_bytes;
+use codec::refusals::Refusal;
 use codec::submessages::{ObjectNumber, StatusCode};
-use moves::answers::{Keeps, Says, keep, what_keeps, what_says};
+use moves::answers::{Says, keep, what_keeps, what_says};
+use moves::proxy::{BridgeAnswer, Task};
 use sessions::objects::Object;
 use sessions::sending::{next_sequence, send_data};
 use sessions::stream_rows::StreamRow;
-use sessions::table::{Got, SessionRow, get};
+use sessions::table::{ClientSession, SessionRow, get};
 
 // The number that a DATA reply takes: "the next send sequence" (document 02, W5), 0 on stream 0.
 fn sequence(sessions: &[SessionRow], streams: &[StreamRow], f: Frame) -> u16
@@ -58,8 +62,8 @@ fn send(
         number,
     );
     let message = &line[..n];
-    put_bytes(out, 0, message);
-    send_data(sessions, streams, held, f.session_id, f.stream_id, message);
+    let _ = put_bytes(out, 0, message);
+    let _ = send_data(sessions, streams, held, f.session_id, f.stream_id, message);
     n
 }
 
@@ -113,37 +117,40 @@ fn say(
 }
 
 // Whether the run begins with an answer, and its session is live.
-fn answers_now(resumes: Resumes, got: Got) -> bool
+fn answers_now(
+    resumes: Option<(ObjectNumber, Task, BridgeAnswer)>,
+    got: Result<Option<ClientSession>, Refusal>,
+) -> bool
     ensures { result ≡ answers_now resumes got }
 {
     match resumes {
-        Resumes::Nothing => false,
-        Resumes::Answer(_, _, _) => match got {
-            Got::Session(_) => true,
-            Got::NotLive => false,
-            Got::Refused(_) => false,
+        None => false,
+        Some((_, _, _)) => match got {
+            Ok(Some(_)) => true,
+            Ok(None) => false,
+            Err(_) => false,
         },
     }
 }
 
 // What the answer that a run begins with lists and says, and for which object.
-#[derive(Clone, Copy)]
+#[derive(Clone, Copy, Debug, PartialEq, Eq)]
 struct Told {
-    pub keeps: Keeps,
+    pub keeps: Option<Object>,
     pub says: Says,
     pub number: ObjectNumber,
 }
 
-fn told_by(resumes: Resumes) -> Told
+fn told_by(resumes: Option<(ObjectNumber, Task, BridgeAnswer)>) -> Told
     ensures { result ≡ told_by resumes }
 {
     match resumes {
-        Resumes::Nothing => Told {
-            keeps: Keeps::Nothing,
+        None => Told {
+            keeps: None,
             says: Says::Status(StatusCode::Ok),
             number: ObjectNumber(0),
         },
-        Resumes::Answer(number, task, told) => Told {
+        Some((number, task, told)) => Told {
             keeps: what_keeps(number, task, told),
             says: what_says(task, told),
             number,
@@ -152,32 +159,31 @@ fn told_by(resumes: Resumes) -> Told
 }
 
 // The answer's part of a call, if it is one: "The same rules give the reply"; an answer touches no session.
-pub(crate) fn begin(
-    sessions: &mut [SessionRow],
-    streams: &mut [StreamRow],
-    objects: &mut [Object],
-    held: &mut [u8],
-    out: &mut [u8],
-    sample: &[u8],
-    frame: Frame,
-    resumes: Resumes,
-) -> usize
-    requires { resumes_fit resumes frame.stream_id (length sample.now) ≡ true }
-    ensures { (result ≡ length (joined_replies (begun_by resumes sessions.old streams.old frame sample.now)))
-        × (sessions.new ≡ begun_sessions resumes sessions.old objects.old frame)
-        × (streams.new ≡ begun_streams resumes sessions.old streams.old held.old frame sample.now)
-        × (objects.new ≡ begun_objects resumes sessions.old objects.old frame)
-        × (held.new ≡ begun_held resumes sessions.old streams.old held.old frame sample.now)
-        × (out.new ≡ put_replies frame.room out.old 0 (begun_by resumes sessions.old streams.old frame sample.now)) }
+pub(crate) fn begin(stores: &mut Stores, out: &mut [u8], sample: &[u8], start: Start) -> usize
+    requires { Prepared start sample.now }
+    ensures wrote { result ≡ length (joined_replies (begun_by start.resumes stores.old.sessions.now stores.old.streams.now start.frame sample.now)) }
+    ensures stores { stores_of stores.new ≡ begun start (stores_of stores.old) sample.now }
+    ensures out { out.new ≡ put_replies start.frame.room out.old 0 (begun_by start.resumes stores.old.sessions.now stores.old.streams.now start.frame sample.now) }
+    ensures places { SamePlaces stores.old stores.new }
 {
+    let frame = start.frame;
+    let resumes = start.resumes;
     let id = frame.session_id;
+    let sessions = &mut *stores.sessions;
     let got = get(sessions, id);
     if answers_now(resumes, got) {
         let t = told_by(resumes);
         let n = say(
-            sessions, streams, held, out, sample, frame, t.number, t.says,
+            sessions,
+            stores.streams,
+            stores.held,
+            out,
+            sample,
+            frame,
+            t.number,
+            t.says,
         );
-        keep(sessions, objects, id, t.keeps);
+        keep(sessions, stores.objects, id, t.keeps);
         n
     } else {
         0

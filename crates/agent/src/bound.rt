@@ -2,39 +2,38 @@
 ghost use Rattle.std.specs.Prelude.{◌≡◌, ◌+◌, ◌≤◌, length};
 ghost use Rattle.codec.specs.Bytes.{word_at};
 ghost use Rattle.sessions.specs.Table.{session_at};
-ghost use Rattle.agent.specs.Host.{answer_most, first_most, bounded, roomy, one_of, ids_at, asks_in, unbound, total_at, lesser, least_at, sparse};
+ghost use Rattle.agent.specs.Host.{answer_most, first_most, bounded, roomy, ids_at, asks_in, unbound, total_at, least_at, sparse};
 
-use crate::judge::{Resumes, Start};
-use moves::proxy::BridgeAnswer;
+use crate::judge::Start;
+use codec::submessages::ObjectNumber;
+use moves::proxy::{BridgeAnswer, Task};
 use sessions::table::SessionRow;
 
-fn first_most(resumes: Resumes, sample: usize) -> usize
+fn first_most(resumes: Option<(ObjectNumber, Task, BridgeAnswer)>, sample: usize) -> usize
     ensures { result ≡ first_most resumes sample }
 {
-    match resumes {
-        Resumes::Nothing => 0,
-        Resumes::Answer(_, _, told) => answer_most(told, sample),
-    }
+    resumes.map_or(0, |(_, _, told)| answer_most(told, sample))
 }
 
 fn answer_most(told: BridgeAnswer, sample: usize) -> usize
     ensures { result ≡ answer_most told sample }
 {
     match told {
-        BridgeAnswer::Sample => if sample <= 65533 { 10 + sample } else { 65543 },
-        BridgeAnswer::Created(_) => 11,
-        BridgeAnswer::Done => 11,
-        BridgeAnswer::NoSample => 11,
-        BridgeAnswer::Failed => 11,
+        BridgeAnswer::Sample => 10 + sample.min(65533),
+        BridgeAnswer::Created(_)
+        | BridgeAnswer::Done
+        | BridgeAnswer::NoSample
+        | BridgeAnswer::Failed => 11,
     }
 }
 
 // The two bytes at a place, as a number.
+#[tactic(auto, unfolding(codec::specs::Bytes::word_at))]
 fn word(d: &[u8], at: usize) -> usize
     requires { at + 2 ≤ length d.now }
     ensures { (result ≡ word_at d.now at) × (result ≤ 65535) }
 {
-    (d[at] as usize) + 256 * (d[at + 1] as usize)
+    usize::from(u16::from_le_bytes([d[at], d[at + 1]]))
 }
 
 // "Submessage: id, flags (a byte each), length (2), payload": the length of the one at a place.
@@ -45,12 +44,6 @@ fn payload_length(d: &[u8], at: usize) -> usize
     word(d, at + 2)
 }
 
-fn one_of(id: u8, b: u8) -> usize
-    ensures { (result ≡ one_of id b) × (result ≤ 1) }
-{
-    if b == id { 1 } else { 0 }
-}
-
 // How many submessages of an id there are from a place of the datagram on, by the headers alone: the datagram was checked
 // before.
 fn count_ids(d: &[u8], id: u8, from: usize) -> usize
@@ -59,12 +52,10 @@ fn count_ids(d: &[u8], id: u8, from: usize) -> usize
     let len = d.len();
     let mut at = from;
     let mut n: usize = 0;
-    while at < len {
-        if len - at < 4 {
-            return n;
-        }
-        n += one_of(id, d[at]);
-        at = at + 4 + payload_length(d, at);
+    // A `while`, since each header says where the next stands: an iterator of their places would not tell its closures that they are in bounds.
+    while at < len && 4 <= len - at {
+        n += usize::from(d[at] == id);
+        at += 4 + payload_length(d, at);
     }
     n
 }
@@ -73,8 +64,7 @@ fn count_ids(d: &[u8], id: u8, from: usize) -> usize
 fn asks_in(d: &[u8], s: Start) -> usize
     ensures { result ≡ asks_in s d.now }
 {
-    let frame = s.frame;
-    if frame.stream_id == 0 {
+    if s.frame.stream_id == 0 {
         return 0;
     }
     count_ids(d, 14, s.at)
@@ -85,8 +75,7 @@ fn asks_in(d: &[u8], s: Start) -> usize
 pub(crate) fn is_roomy(room: usize, d: &[u8], s: Start, n: usize, sample: usize) -> bool
     ensures { result ≡ bounded room s n d.now sample }
 {
-    let resumes = s.resumes;
-    let first = first_most(resumes, sample);
+    let first = first_most(s.resumes, sample);
     if room < first {
         return false;
     }
@@ -105,10 +94,7 @@ pub(crate) fn is_roomy(room: usize, d: &[u8], s: Start, n: usize, sample: usize)
 pub(crate) fn is_unbound(d: &[u8], s: Start) -> bool
     ensures { result ≡ unbound s d.now }
 {
-    if s.left_at != s.left_end {
-        return true;
-    }
-    0 < count_ids(d, 15, s.at)
+    s.left_at != s.left_end || 0 < count_ids(d, 15, s.at)
 }
 
 // The total of the FRAGMENT, 0x0F, at a place: number (2), total (2), body. More than any where another submessage stands; 0, as of one
@@ -126,12 +112,6 @@ fn total_at(d: &[u8], at: usize) -> usize
     word(d, at + 6)
 }
 
-fn lesser_of(a: usize, b: usize) -> usize
-    ensures { result ≡ lesser a b }
-{
-    if b < a { b } else { a }
-}
-
 // The least total of the FRAGMENTs from a place of the datagram on.
 fn least_total(d: &[u8], from: usize) -> usize
     ensures { result ≡ least_at d.now from }
@@ -139,12 +119,10 @@ fn least_total(d: &[u8], from: usize) -> usize
     let len = d.len();
     let mut at = from;
     let mut least: usize = 65536;
-    while at < len {
-        if len - at < 4 {
-            return least;
-        }
-        least = lesser_of(least, total_at(d, at));
-        at = at + 4 + payload_length(d, at);
+    // A `while`, as in `count_ids`.
+    while at < len && 4 <= len - at {
+        least = least.min(total_at(d, at));
+        at += 4 + payload_length(d, at);
     }
     least
 }
@@ -153,19 +131,13 @@ fn least_total(d: &[u8], from: usize) -> usize
 fn received_at(sessions: &[SessionRow], id: u8) -> u64
     ensures { result ≡ (session_at sessions.now id).received }
 {
-    let i = id as usize;
-    if i < sessions.len() {
-        sessions[i][7]
-    } else {
-        0
-    }
+    sessions.get(usize::from(id)).map_or(0, |row| row[7])
 }
 
 // No FRAGMENT completes its message: even with all of them the session has received fewer than the least of their totals.
 fn is_sparse(sessions: &[SessionRow], d: &[u8], s: Start) -> bool
     ensures { result ≡ sparse s sessions.now d.now }
 {
-    let frame = s.frame;
     let n = count_ids(d, 15, s.at);
     if n == 0 {
         return true;
@@ -174,7 +146,7 @@ fn is_sparse(sessions: &[SessionRow], d: &[u8], s: Start) -> bool
     if least <= n {
         return false;
     }
-    received_at(sessions, frame.session_id) < (least - n) as u64
+    received_at(sessions, s.frame.session_id) < (least - n) as u64
 }
 
 // Whether 13 needs no run of its own: no rebuilt submessage waits or can come, and the output is long enough for all else.
@@ -188,12 +160,5 @@ pub(crate) fn is_spared(
 ) -> bool
     ensures { result ≡ roomy room s sessions.now n d.now sample }
 {
-    if s.left_at != s.left_end {
-        return false;
-    }
-    if is_sparse(sessions, d, s) {
-        is_roomy(room, d, s, n, sample)
-    } else {
-        false
-    }
+    s.left_at == s.left_end && is_sparse(sessions, d, s) && is_roomy(room, d, s, n, sample)
 }

@@ -1,24 +1,20 @@
 // A FRAGMENT (document 02, W6): it gets no reply of its own; where it is the last one missing, the rebuilt bytes are read as
 // submessages under the header of its datagram.
 ghost use Rattle.std.specs.Prelude.{◌≡◌, ◌≤◌};
-ghost use Rattle.codec.specs.Reading.{part_of};
-ghost use Rattle.codec.specs.Rebuilt.{rebuilt_of};
-ghost use Rattle.sessions.specs.Table.{touched_rows};
-ghost use Rattle.sessions.specs.Fragments.{gathered, gathered_rows, gathered_parts, gathered_lengths, gathered_rebuilt};
-ghost use Rattle.moves.specs.Rows.{rows};
-ghost use Rattle.agent.specs.Lent.{lent, rebuilt_part, rebuilt_end};
+ghost use Rattle.agent.specs.Lent.{rebuilt_part};
 ghost use Rattle.agent.specs.Judge.{is_read};
-ghost use Rattle.agent.specs.Run.{put_replies, entered_ran, inside_stop, left_ran, whole_len, work_at, left_by, fragment_turned};
+ghost use Rattle.agent.specs.Run.{put_replies, entered_ran, inside_stop, left_ran, whole_len, gathers, gathered_len, whole_turned, fragment_turned};
+ghost use Rattle.agent.specs.Stores.{stores_of, SamePlaces};
 
 use crate::leg::{Mode, lead};
+use crate::stores::Stores;
 use crate::turn::{Frame, Ran, Stop, Taken, passed};
 use codec::layouts::Span;
 use codec::reading::part;
-use codec::rebuilt::{Rebuilt, check_rebuilt};
+use codec::rebuilt::check_rebuilt;
+use codec::refusals::Refusal;
 use sessions::fragments::{Gathered, keep_fragment};
-use sessions::objects::Object;
-use sessions::stream_rows::StreamRow;
-use sessions::table::{SessionRow, touch};
+use sessions::table::touch;
 
 // Before the first rebuilt submessage, in their own bytes.
 fn entered(r: Ran) -> Ran
@@ -57,14 +53,7 @@ pub(crate) fn left(y: Ran, end: usize, at: usize) -> Ran
     }
 }
 
-// How many of the first `n` rebuilt bytes lie in their place: all, or none.
-pub(crate) fn rebuilt_end(len: usize, n: usize) -> usize
-    ensures { result ≡ rebuilt_end len n }
-{
-    if n <= len { n } else { 0 }
-}
-
-// These bytes.
+// The first `n` rebuilt bytes, where as many lie in their place; else none.
 pub(crate) fn rebuilt_part(rebuilt: &[u8], n: usize) -> &[u8]
     ensures { result.now ≡ rebuilt_part rebuilt.now n }
 {
@@ -81,42 +70,33 @@ fn whole_len(g: Gathered) -> usize
     }
 }
 
-pub(crate) fn is_read(r: Rebuilt) -> bool
+pub(crate) fn is_read(r: Result<usize, Refusal>) -> bool
     ensures { result ≡ is_read r }
 {
     match r {
-        Rebuilt::Subs(_) => true,
-        Rebuilt::Refused(_) => false,
+        Ok(_) => true,
+        Err(_) => false,
     }
 }
 
 // The rebuilt submessages of the bytes that were made whole, unless these are refused: "On any of these no rebuilt submessage takes
 // effect, none is answered, and the datagram's later submessages are handled."
-fn work_off(
-    sessions: &mut [SessionRow],
-    streams: &mut [StreamRow],
-    objects: &mut [Object],
-    held: &[u8],
-    out: &mut [u8],
-    s: &[u8],
-    f: Frame,
-    n: usize,
-    r: Ran,
-    at: usize,
-) -> Ran
+fn work_off(stores: &mut Stores, out: &mut [u8], f: Frame, n: usize, r: Ran, at: usize) -> Ran
     requires { f.room ≤ 9223372036854775807 }
-    ensures { (result ≡ (left_by (rebuilt_of s.now) f held.now s.now n r at (rows sessions.old streams.old objects.old)).ran)
-        × (sessions.new ≡ (left_by (rebuilt_of s.now) f held.now s.now n r at (rows sessions.old streams.old objects.old)).rows.sessions)
-        × (streams.new ≡ (left_by (rebuilt_of s.now) f held.now s.now n r at (rows sessions.old streams.old objects.old)).rows.streams)
-        × (objects.new ≡ (left_by (rebuilt_of s.now) f held.now s.now n r at (rows sessions.old streams.old objects.old)).rows.objects)
-        × (out.new ≡ put_replies f.room out.old r.wrote (left_by (rebuilt_of s.now) f held.now s.now n r at (rows sessions.old streams.old objects.old)).replies) }
+    ensures ran { result ≡ (whole_turned f (stores_of stores.old) n r at).ran }
+    ensures stores { stores_of stores.new ≡ (whole_turned f (stores_of stores.old) n r at).tables }
+    ensures out { out.new ≡ put_replies f.room out.old r.wrote (whole_turned f (stores_of stores.old) n r at).replies }
+    ensures places { SamePlaces stores.old stores.new }
 {
+    let rebuilt = &mut *stores.rebuilt;
+    let s = rebuilt_part(rebuilt, n);
     if is_read(check_rebuilt(s)) {
         let first = entered(r);
+        let held = &mut *stores.held;
         let y = lead(
-            sessions,
-            streams,
-            objects,
+            stores.sessions,
+            stores.streams,
+            stores.objects,
             held,
             out,
             s,
@@ -131,39 +111,30 @@ fn work_off(
 }
 
 // Touched like any other, then kept; the number of bytes that it makes whole.
-fn gather(
-    sessions: &mut [SessionRow],
-    parts: &mut [u8],
-    lengths: &mut [u32],
-    rebuilt: &mut [u8],
-    d: &[u8],
-    f: Frame,
-    took: Taken,
-) -> usize
-    ensures { (result ≡ whole_len (gathered (touched_rows sessions.old f.session_id f.moment.time) parts.old lengths.old rebuilt.old f.session_id took.asked.first took.asked.second (part_of d.now took.body)))
-        × (sessions.new ≡ gathered_rows (touched_rows sessions.old f.session_id f.moment.time) parts.old lengths.old rebuilt.old f.session_id took.asked.first took.asked.second (part_of d.now took.body))
-        × (parts.new ≡ gathered_parts (touched_rows sessions.old f.session_id f.moment.time) parts.old lengths.old f.session_id took.asked.first took.asked.second (part_of d.now took.body))
-        × (lengths.new ≡ gathered_lengths (touched_rows sessions.old f.session_id f.moment.time) parts.old lengths.old f.session_id took.asked.first took.asked.second (part_of d.now took.body))
-        × (rebuilt.new ≡ gathered_rebuilt (touched_rows sessions.old f.session_id f.moment.time) parts.old lengths.old rebuilt.old f.session_id took.asked.first took.asked.second (part_of d.now took.body)) }
+fn gather(stores: &mut Stores, d: &[u8], f: Frame, took: Taken) -> usize
+    ensures count { result ≡ gathered_len f (stores_of stores.old) d.now took }
+    ensures stores { stores_of stores.new ≡ gathers f (stores_of stores.old) d.now took }
+    ensures places { SamePlaces stores.old stores.new }
 {
     let id = f.session_id;
-    touch(sessions, id, f.moment.time);
+    let _ = touch(stores.sessions, id, f.moment.time);
     let body = part(d, took.body);
     let q = took.asked;
     let g = keep_fragment(
-        sessions, parts, lengths, rebuilt, id, q.first, q.second, body,
+        stores.sessions,
+        stores.parts,
+        stores.lengths,
+        stores.rebuilt,
+        id,
+        q.first,
+        q.second,
+        body,
     );
     whole_len(g)
 }
 
 pub(crate) fn fragment(
-    sessions: &mut [SessionRow],
-    streams: &mut [StreamRow],
-    objects: &mut [Object],
-    held: &[u8],
-    parts: &mut [u8],
-    lengths: &mut [u32],
-    rebuilt: &mut [u8],
+    stores: &mut Stores,
     out: &mut [u8],
     d: &[u8],
     f: Frame,
@@ -171,27 +142,11 @@ pub(crate) fn fragment(
     took: Taken,
 ) -> Ran
     requires { f.room ≤ 9223372036854775807 }
-    ensures { (result ≡ (fragment_turned f (lent sessions.old streams.old objects.old held.now parts.old lengths.old rebuilt.old) d.now r took).ran)
-        × (sessions.new ≡ (fragment_turned f (lent sessions.old streams.old objects.old held.now parts.old lengths.old rebuilt.old) d.now r took).tables.sessions)
-        × (streams.new ≡ (fragment_turned f (lent sessions.old streams.old objects.old held.now parts.old lengths.old rebuilt.old) d.now r took).tables.streams)
-        × (objects.new ≡ (fragment_turned f (lent sessions.old streams.old objects.old held.now parts.old lengths.old rebuilt.old) d.now r took).tables.objects)
-        × (parts.new ≡ (fragment_turned f (lent sessions.old streams.old objects.old held.now parts.old lengths.old rebuilt.old) d.now r took).tables.parts)
-        × (lengths.new ≡ (fragment_turned f (lent sessions.old streams.old objects.old held.now parts.old lengths.old rebuilt.old) d.now r took).tables.lengths)
-        × (rebuilt.new ≡ (fragment_turned f (lent sessions.old streams.old objects.old held.now parts.old lengths.old rebuilt.old) d.now r took).tables.rebuilt)
-        × (out.new ≡ put_replies f.room out.old r.wrote (fragment_turned f (lent sessions.old streams.old objects.old held.now parts.old lengths.old rebuilt.old) d.now r took).replies) }
+    ensures ran { result ≡ (fragment_turned f (stores_of stores.old) d.now r took).ran }
+    ensures stores { stores_of stores.new ≡ (fragment_turned f (stores_of stores.old) d.now r took).tables }
+    ensures out { out.new ≡ put_replies f.room out.old r.wrote (fragment_turned f (stores_of stores.old) d.now r took).replies }
+    ensures places { SamePlaces stores.old stores.new }
 {
-    let n = gather(sessions, parts, lengths, rebuilt, d, f, took);
-    let end = rebuilt_end(rebuilt.len(), n);
-    work_off(
-        sessions,
-        streams,
-        objects,
-        held,
-        out,
-        &rebuilt[..end],
-        f,
-        n,
-        r,
-        took.at,
-    )
+    let n = gather(stores, d, f, took);
+    work_off(stores, out, f, n, r, took.at)
 }

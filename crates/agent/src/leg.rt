@@ -3,7 +3,7 @@
 ghost use Rattle.std.specs.Prelude.{◌≡◌, ◌≤◌};
 ghost use Rattle.moves.specs.Rows.{rows};
 ghost use Rattle.agent.specs.Run.{put_replies, is_call, goes_on};
-ghost use Rattle.agent.specs.Legs.{greets_in, keeps_in, step_of, plain_leg, led, is_kept, is_entering, has_entered, leads_on, leg_at};
+ghost use Rattle.agent.specs.Legs.{greets_in, keeps_in, step_of, plain_leg, led, is_entering, has_entered, leads_on, leg_at};
 
 use crate::turn::{Frame, Ran, Stop, Taken, deliver, greet, is_live, passed, take_apart};
 use codec::layouts::Cursor;
@@ -14,29 +14,23 @@ use sessions::stream_rows::StreamRow;
 use sessions::table::{SessionRow, live_at};
 
 // What the bytes are: a datagram's; rebuilt ones (document 02, W6), which were checked to hold no CREATE_CLIENT and no FRAGMENT; or a
-// datagram's up to where the session that its header names is live.
-#[derive(Clone, Copy)]
+// datagram's up to where the session that its header names is live. One loop for all three, which are told apart in it: with a loop for each, a
+// submessage took two to three times as long (decision 146).
+#[derive(Clone, Copy, Debug, PartialEq, Eq)]
 pub(crate) enum Mode {
     Datagram,
     Rebuilt,
     Entering,
 }
 
-// The FRAGMENT that ended a leg, if one did.
-#[derive(Clone, Copy)]
-pub(crate) enum Found {
-    Nothing,
-    Fragment(Taken),
-}
-
-#[derive(Clone, Copy)]
+#[derive(Clone, Copy, Debug, PartialEq, Eq)]
 pub(crate) struct Leg {
     pub ran: Ran,
-    pub found: Found,
+    pub found: Option<Taken>,
 }
 
 // What is done with a submessage.
-#[derive(Clone, Copy)]
+#[derive(Clone, Copy, Debug, PartialEq, Eq)]
 pub(crate) enum Step {
     Greets,
     Keeps,
@@ -48,9 +42,8 @@ fn greets_in(m: Mode) -> Step
     ensures { result ≡ greets_in m }
 {
     match m {
-        Mode::Datagram => Step::Greets,
+        Mode::Datagram | Mode::Entering => Step::Greets,
         Mode::Rebuilt => Step::Passes,
-        Mode::Entering => Step::Greets,
     }
 }
 
@@ -59,8 +52,7 @@ fn keeps_in(m: Mode) -> Step
 {
     match m {
         Mode::Datagram => Step::Keeps,
-        Mode::Rebuilt => Step::Passes,
-        Mode::Entering => Step::Passes,
+        Mode::Rebuilt | Mode::Entering => Step::Passes,
     }
 }
 
@@ -78,13 +70,11 @@ fn step_of(m: Mode, o: Opening) -> Step
 fn plain(ran: Ran) -> Leg
     ensures { result ≡ plain_leg ran }
 {
-    Leg {
-        ran,
-        found: Found::Nothing,
-    }
+    Leg { ran, found: None }
 }
 
 // The submessage at the run's place. The bytes were checked before, so that one is always read there.
+// On slices: its bytes may be the rebuilt ones, which are a field of `Stores`.
 fn turn(
     sessions: &mut [SessionRow],
     streams: &mut [StreamRow],
@@ -113,7 +103,7 @@ fn turn(
         Step::Greets => plain(greet(sessions, streams, out, f, r, q.key, x.at)),
         Step::Keeps => Leg {
             ran: passed(r, x.at),
-            found: Found::Fragment(x),
+            found: Some(x),
         },
         Step::Delivers => plain(deliver(sessions, streams, objects, held, out, s, f, r, x)),
         Step::Passes => plain(passed(r, x.at)),
@@ -123,11 +113,7 @@ fn turn(
 fn is_call(s: Stop) -> bool
     ensures { result ≡ is_call s }
 {
-    match s {
-        Stop::Nothing => false,
-        Stop::Call(_, _, _) => true,
-        Stop::Inside(_, _, _, _, _) => true,
-    }
+    !matches!(s, Stop::Nothing)
 }
 
 pub(crate) fn goes_on(len: usize, r: Ran) -> bool
@@ -140,23 +126,10 @@ pub(crate) fn goes_on(len: usize, r: Ran) -> bool
     r.at < len
 }
 
-fn is_kept(f: Found) -> bool
-    ensures { result ≡ is_kept f }
-{
-    match f {
-        Found::Nothing => false,
-        Found::Fragment(_) => true,
-    }
-}
-
 fn is_entering(m: Mode) -> bool
     ensures { result ≡ is_entering m }
 {
-    match m {
-        Mode::Datagram => false,
-        Mode::Rebuilt => false,
-        Mode::Entering => true,
-    }
+    matches!(m, Mode::Entering)
 }
 
 fn has_entered(sessions: &[SessionRow], id: u8, m: Mode) -> bool
@@ -171,17 +144,13 @@ fn has_entered(sessions: &[SessionRow], id: u8, m: Mode) -> bool
 fn leads_on(sessions: &[SessionRow], id: u8, m: Mode, len: usize, l: Leg) -> bool
     ensures { result ≡ leads_on m sessions.now id len l }
 {
-    let found = l.found;
-    if is_kept(found) {
+    if l.found.is_some() || has_entered(sessions, id, m) {
         return false;
     }
-    if has_entered(sessions, id, m) {
-        return false;
-    }
-    let r = l.ran;
-    goes_on(len, r)
+    goes_on(len, l.ran)
 }
 
+// On slices: its bytes may be the rebuilt ones, which are a field of `Stores`.
 pub(crate) fn lead(
     sessions: &mut [SessionRow],
     streams: &mut [StreamRow],
@@ -202,6 +171,7 @@ pub(crate) fn lead(
 {
     let len = s.len();
     let mut l = plain(start);
+    // A `while`: a submessage says where the next one begins, and whether the leg goes on.
     while leads_on(sessions, f.session_id, m, len, l) {
         let r = l.ran;
         l = turn(sessions, streams, objects, held, out, s, f, m, r);

@@ -1,13 +1,16 @@
 // A datagram or an answer, whole: judged, run, and 13 last.
-ghost use Rattle.std.specs.Prelude.{◌≡◌, true, ◌+◌, ◌-◌, ◌≤◌, ltb, length};
+ghost use Rattle.std.specs.Prelude.{◌≡◌, true, ◌≤◌, ltb, length};
 ghost use Rattle.agent.specs.Lent.{lent};
-ghost use Rattle.agent.specs.Host.{outcome_of, waits_of, finished_of, refused_of, bounded, roomy, unbound, needed_of, resumes_fit, performed, finish, process_of};
+ghost use Rattle.agent.specs.Run.{put_replies};
+ghost use Rattle.agent.specs.Host.{outcome_of, waits_of, finished_of, refused_of, roomy, unbound, needed_of, Prepared, LongEnough, performed, finish, process_of};
+ghost use Rattle.agent.specs.Stores.{stores_of, SamePlaces};
 
 use crate::bound::{is_roomy, is_spared, is_unbound};
 use crate::dry::dry;
-use crate::judge::{Input, Start, judge, parts_of};
+use crate::judge::{Input, Start, judge};
 use crate::perform::{perform, perform_plain};
-use crate::state::{Agent, Given, Pending, Waiting};
+use crate::state::{Agent, Given, Pending};
+use crate::stores::Stores;
 use crate::turn::{Ran, Stop};
 use codec::refusals::Refusal;
 use moves::proxy::BridgeCall;
@@ -16,17 +19,16 @@ use sessions::stream_rows::StreamRow;
 use sessions::table::SessionRow;
 
 // The bytes replied, at the start of the output; the same with a call handed out; or why not.
-#[derive(Clone, Copy)]
+#[derive(Clone, Copy, Debug, PartialEq, Eq)]
 pub enum Outcome {
     Replied(usize),
     Called(BridgeCall, usize),
-    Refused(Refusal),
 }
 
-#[derive(Clone, Copy)]
+#[derive(Clone, Copy, Debug, PartialEq, Eq)]
 pub struct Processed {
     pub agent: Agent,
-    pub outcome: Outcome,
+    pub outcome: Result<Outcome, Refusal>,
 }
 
 fn refused(agent: Agent, x: Refusal) -> Processed
@@ -34,31 +36,30 @@ fn refused(agent: Agent, x: Refusal) -> Processed
 {
     Processed {
         agent,
-        outcome: Outcome::Refused(x),
+        outcome: Err(x),
     }
 }
 
-fn outcome_of(ran: Ran) -> Outcome
+fn outcome_of(ran: Ran) -> Result<Outcome, Refusal>
     ensures { result ≡ outcome_of ran.stop ran.wrote }
 {
     let wrote = ran.wrote;
     let stop = ran.stop;
     match stop {
-        Stop::Nothing => Outcome::Replied(wrote),
-        Stop::Call(_, _, call) => Outcome::Called(call, wrote),
-        Stop::Inside(_, _, call, _, _) => Outcome::Called(call, wrote),
+        Stop::Nothing => Ok(Outcome::Replied(wrote)),
+        Stop::Call(_, _, call) | Stop::Inside(_, _, call, _, _) => Ok(Outcome::Called(call, wrote)),
     }
 }
 
-fn waits_of(s: Start, ran: Ran) -> Waiting
+fn waits_of(s: Start, ran: Ran) -> Option<Pending>
     ensures { result ≡ waits_of s.frame ran.stop ran.at }
 {
     let frame = s.frame;
     let moment = frame.moment;
     let stop = ran.stop;
     match stop {
-        Stop::Nothing => Waiting::Nothing,
-        Stop::Call(number, task, _) => Waiting::Call(Pending {
+        Stop::Nothing => None,
+        Stop::Call(number, task, _) => Some(Pending {
             session_id: frame.session_id,
             stream_id: frame.stream_id,
             number,
@@ -68,7 +69,7 @@ fn waits_of(s: Start, ran: Ran) -> Waiting
             left_at: 0,
             left_end: 0,
         }),
-        Stop::Inside(number, task, _, left_at, left_end) => Waiting::Call(Pending {
+        Stop::Inside(number, task, _, left_at, left_end) => Some(Pending {
             session_id: frame.session_id,
             stream_id: frame.stream_id,
             number,
@@ -98,145 +99,67 @@ fn finished(agent: Agent, s: Start, ran: Ran) -> Processed
     }
 }
 
-fn needed(
-    sessions: &mut [SessionRow],
-    streams: &mut [StreamRow],
-    objects: &mut [Object],
-    held: &mut [u8],
-    parts: &mut [u8],
-    lengths: &mut [u32],
-    rebuilt: &mut [u8],
+// Whether a bound says that the output has room: of a call that may handle rebuilt submessages, or of any other.
+fn is_enough(
+    sessions: &[SessionRow],
+    room: usize,
     d: &[u8],
-    sample: &[u8],
     start: Start,
     n: usize,
-    room: usize,
-) -> usize
-    requires { (resumes_fit start.resumes start.frame.stream_id (length sample.now) ≡ true)
-        × (start.frame.room ≤ 9223372036854775807)
-        × (256 ≤ length sessions.old)
-        × (2048 ≤ length streams.old)
-        × (8192 ≤ length objects.old)
-        × (32768 ≤ length rebuilt.old) }
-    ensures { (result ≡ needed_of (bounded room start n d.now (length sample.now)) (performed start (lent sessions.old streams.old objects.old held.old parts.old lengths.old rebuilt.old) d.now sample.now).ran.wrote)
-        × (sessions.new ≡ sessions.old)
-        × (streams.new ≡ streams.old)
-        × (objects.new ≡ objects.old)
-        × (held.new ≡ held.old)
-        × (parts.new ≡ parts.old)
-        × (lengths.new ≡ lengths.old)
-        × (rebuilt.new ≡ rebuilt.old) }
+    sample: usize,
+    may_rebuild: bool,
+) -> bool
+    requires { unbound start d.now ≡ may_rebuild }
+    ensures { result ≡ roomy room start sessions.now n d.now sample }
 {
-    let long = sample.len();
-    let ok = is_roomy(room, d, start, n, long);
-    if ok {
-        0
+    if may_rebuild {
+        is_spared(sessions, room, d, start, n, sample)
     } else {
-        dry(
-            sessions, streams, objects, held, parts, lengths, rebuilt, d, sample, start,
-        )
+        is_roomy(room, d, start, n, sample)
     }
 }
 
-// How many bytes the replies take, 0 where a bound says that there is room: of a call that may handle rebuilt submessages. The run is called here
-// alone and in `needed`, so that the compiler keeps it off the way of every other call.
-fn needed_unbound(
-    sessions: &mut [SessionRow],
-    streams: &mut [StreamRow],
-    objects: &mut [Object],
-    held: &mut [u8],
-    parts: &mut [u8],
-    lengths: &mut [u32],
-    rebuilt: &mut [u8],
-    d: &[u8],
-    sample: &[u8],
-    start: Start,
-    n: usize,
-    room: usize,
-) -> usize
-    requires { (resumes_fit start.resumes start.frame.stream_id (length sample.now) ≡ true)
-        × (start.frame.room ≤ 9223372036854775807)
-        × (256 ≤ length sessions.old)
-        × (2048 ≤ length streams.old)
-        × (8192 ≤ length objects.old)
-        × (32768 ≤ length rebuilt.old) }
-    ensures { (result ≡ needed_of (roomy room start sessions.old n d.now (length sample.now)) (performed start (lent sessions.old streams.old objects.old held.old parts.old lengths.old rebuilt.old) d.now sample.now).ran.wrote)
-        × (sessions.new ≡ sessions.old)
-        × (streams.new ≡ streams.old)
-        × (objects.new ≡ objects.old)
-        × (held.new ≡ held.old)
-        × (parts.new ≡ parts.old)
-        × (lengths.new ≡ lengths.old)
-        × (rebuilt.new ≡ rebuilt.old) }
+// How many bytes the replies take, 0 where a bound says that there is room.
+fn needed(stores: &mut Stores, d: &[u8], sample: &[u8], start: Start, enough: bool) -> usize
+    requires prepared { Prepared start sample.now }
+    requires long { LongEnough (stores_of stores.old) }
+    ensures wrote { result ≡ needed_of enough (performed start (stores_of stores.old) d.now sample.now).ran.wrote }
+    ensures stores { stores_of stores.new ≡ stores_of stores.old }
+    ensures places { SamePlaces stores.old stores.new }
 {
-    let long = sample.len();
-    let ok = is_spared(sessions, room, d, start, n, long);
-    if ok {
+    if enough {
         0
     } else {
-        dry(
-            sessions, streams, objects, held, parts, lengths, rebuilt, d, sample, start,
-        )
+        dry(stores, d, sample, start)
     }
 }
 
-// 13, last, of a call that may handle rebuilt submessages.
-fn go_unbound(
-    sessions: &mut [SessionRow],
-    streams: &mut [StreamRow],
-    objects: &mut [Object],
-    held: &mut [u8],
-    parts: &mut [u8],
-    lengths: &mut [u32],
-    rebuilt: &mut [u8],
+// The call itself: one leg, where it can't handle rebuilt submessages.
+fn act(
+    stores: &mut Stores,
     out: &mut [u8],
     d: &[u8],
     sample: &[u8],
-    agent: Agent,
     start: Start,
-    n: usize,
-) -> Processed
-    requires { (resumes_fit start.resumes start.frame.stream_id (length sample.now) ≡ true)
-        × (start.frame.room ≡ length out.old)
-        × (ltb (length out.old) (needed_of (roomy (length out.old) start sessions.old n d.now (length sample.now)) (performed start (lent sessions.old streams.old objects.old held.old parts.old lengths.old rebuilt.old) d.now sample.now).ran.wrote)
-        ≡ ltb (length out.old) (performed start (lent sessions.old streams.old objects.old held.old parts.old lengths.old rebuilt.old) d.now sample.now).ran.wrote)
-        × (256 ≤ length sessions.old)
-        × (2048 ≤ length streams.old)
-        × (8192 ≤ length objects.old)
-        × (32768 ≤ length rebuilt.old) }
-    ensures { (result ≡ (finish agent (lent sessions.old streams.old objects.old held.old parts.old lengths.old rebuilt.old) out.old start (performed start (lent sessions.old streams.old objects.old held.old parts.old lengths.old rebuilt.old) d.now sample.now)).processed)
-        × (sessions.new ≡ (finish agent (lent sessions.old streams.old objects.old held.old parts.old lengths.old rebuilt.old) out.old start (performed start (lent sessions.old streams.old objects.old held.old parts.old lengths.old rebuilt.old) d.now sample.now)).tables.sessions)
-        × (streams.new ≡ (finish agent (lent sessions.old streams.old objects.old held.old parts.old lengths.old rebuilt.old) out.old start (performed start (lent sessions.old streams.old objects.old held.old parts.old lengths.old rebuilt.old) d.now sample.now)).tables.streams)
-        × (objects.new ≡ (finish agent (lent sessions.old streams.old objects.old held.old parts.old lengths.old rebuilt.old) out.old start (performed start (lent sessions.old streams.old objects.old held.old parts.old lengths.old rebuilt.old) d.now sample.now)).tables.objects)
-        × (held.new ≡ (finish agent (lent sessions.old streams.old objects.old held.old parts.old lengths.old rebuilt.old) out.old start (performed start (lent sessions.old streams.old objects.old held.old parts.old lengths.old rebuilt.old) d.now sample.now)).tables.held)
-        × (parts.new ≡ (finish agent (lent sessions.old streams.old objects.old held.old parts.old lengths.old rebuilt.old) out.old start (performed start (lent sessions.old streams.old objects.old held.old parts.old lengths.old rebuilt.old) d.now sample.now)).tables.parts)
-        × (lengths.new ≡ (finish agent (lent sessions.old streams.old objects.old held.old parts.old lengths.old rebuilt.old) out.old start (performed start (lent sessions.old streams.old objects.old held.old parts.old lengths.old rebuilt.old) d.now sample.now)).tables.lengths)
-        × (rebuilt.new ≡ (finish agent (lent sessions.old streams.old objects.old held.old parts.old lengths.old rebuilt.old) out.old start (performed start (lent sessions.old streams.old objects.old held.old parts.old lengths.old rebuilt.old) d.now sample.now)).tables.rebuilt)
-        × (out.new ≡ (finish agent (lent sessions.old streams.old objects.old held.old parts.old lengths.old rebuilt.old) out.old start (performed start (lent sessions.old streams.old objects.old held.old parts.old lengths.old rebuilt.old) d.now sample.now)).out) }
+    may_rebuild: bool,
+) -> Ran
+    requires prepared { Prepared start sample.now }
+    requires bound { unbound start d.now ≡ may_rebuild }
+    ensures ran { result ≡ (performed start (stores_of stores.old) d.now sample.now).ran }
+    ensures stores { stores_of stores.new ≡ (performed start (stores_of stores.old) d.now sample.now).tables }
+    ensures out { out.new ≡ put_replies start.frame.room out.old 0 (performed start (stores_of stores.old) d.now sample.now).replies }
+    ensures places { SamePlaces stores.old stores.new }
 {
-    let room = out.len();
-    let need = needed_unbound(
-        sessions, streams, objects, held, parts, lengths, rebuilt, d, sample, start, n, room,
-    );
-    if room < need {
-        refused(agent, Refusal::OutputTooShort)
+    if may_rebuild {
+        perform(stores, out, d, sample, start)
     } else {
-        let ran = perform(
-            sessions, streams, objects, held, parts, lengths, rebuilt, out, d, sample, start,
-        );
-        finished(agent, start, ran)
+        perform_plain(stores, out, d, sample, start)
     }
 }
 
 // 13, last.
 fn go(
-    sessions: &mut [SessionRow],
-    streams: &mut [StreamRow],
-    objects: &mut [Object],
-    held: &mut [u8],
-    parts: &mut [u8],
-    lengths: &mut [u32],
-    rebuilt: &mut [u8],
+    stores: &mut Stores,
     out: &mut [u8],
     d: &[u8],
     sample: &[u8],
@@ -244,39 +167,58 @@ fn go(
     start: Start,
     n: usize,
 ) -> Processed
-    requires { (resumes_fit start.resumes start.frame.stream_id (length sample.now) ≡ true)
-        × (start.frame.room ≡ length out.old)
-        × (ltb (length out.old) (needed_of (roomy (length out.old) start sessions.old n d.now (length sample.now)) (performed start (lent sessions.old streams.old objects.old held.old parts.old lengths.old rebuilt.old) d.now sample.now).ran.wrote)
-        ≡ ltb (length out.old) (performed start (lent sessions.old streams.old objects.old held.old parts.old lengths.old rebuilt.old) d.now sample.now).ran.wrote)
-        × (256 ≤ length sessions.old)
-        × (2048 ≤ length streams.old)
-        × (8192 ≤ length objects.old)
-        × (32768 ≤ length rebuilt.old) }
-    ensures { (result ≡ (finish agent (lent sessions.old streams.old objects.old held.old parts.old lengths.old rebuilt.old) out.old start (performed start (lent sessions.old streams.old objects.old held.old parts.old lengths.old rebuilt.old) d.now sample.now)).processed)
-        × (sessions.new ≡ (finish agent (lent sessions.old streams.old objects.old held.old parts.old lengths.old rebuilt.old) out.old start (performed start (lent sessions.old streams.old objects.old held.old parts.old lengths.old rebuilt.old) d.now sample.now)).tables.sessions)
-        × (streams.new ≡ (finish agent (lent sessions.old streams.old objects.old held.old parts.old lengths.old rebuilt.old) out.old start (performed start (lent sessions.old streams.old objects.old held.old parts.old lengths.old rebuilt.old) d.now sample.now)).tables.streams)
-        × (objects.new ≡ (finish agent (lent sessions.old streams.old objects.old held.old parts.old lengths.old rebuilt.old) out.old start (performed start (lent sessions.old streams.old objects.old held.old parts.old lengths.old rebuilt.old) d.now sample.now)).tables.objects)
-        × (held.new ≡ (finish agent (lent sessions.old streams.old objects.old held.old parts.old lengths.old rebuilt.old) out.old start (performed start (lent sessions.old streams.old objects.old held.old parts.old lengths.old rebuilt.old) d.now sample.now)).tables.held)
-        × (parts.new ≡ (finish agent (lent sessions.old streams.old objects.old held.old parts.old lengths.old rebuilt.old) out.old start (performed start (lent sessions.old streams.old objects.old held.old parts.old lengths.old rebuilt.old) d.now sample.now)).tables.parts)
-        × (lengths.new ≡ (finish agent (lent sessions.old streams.old objects.old held.old parts.old lengths.old rebuilt.old) out.old start (performed start (lent sessions.old streams.old objects.old held.old parts.old lengths.old rebuilt.old) d.now sample.now)).tables.lengths)
-        × (rebuilt.new ≡ (finish agent (lent sessions.old streams.old objects.old held.old parts.old lengths.old rebuilt.old) out.old start (performed start (lent sessions.old streams.old objects.old held.old parts.old lengths.old rebuilt.old) d.now sample.now)).tables.rebuilt)
-        × (out.new ≡ (finish agent (lent sessions.old streams.old objects.old held.old parts.old lengths.old rebuilt.old) out.old start (performed start (lent sessions.old streams.old objects.old held.old parts.old lengths.old rebuilt.old) d.now sample.now)).out) }
+    requires prepared { Prepared start sample.now }
+    requires room { start.frame.room ≡ length out.old }
+    requires thirteen { ltb (length out.old) (needed_of (roomy (length out.old) start stores.old.sessions.now n d.now (length sample.now)) (performed start (stores_of stores.old) d.now sample.now).ran.wrote) ≡ ltb (length out.old) (performed start (stores_of stores.old) d.now sample.now).ran.wrote }
+    requires long { LongEnough (stores_of stores.old) }
+    ensures processed { result ≡ (finish agent (stores_of stores.old) out.old start (performed start (stores_of stores.old) d.now sample.now)).processed }
+    ensures stores { stores_of stores.new ≡ (finish agent (stores_of stores.old) out.old start (performed start (stores_of stores.old) d.now sample.now)).tables }
+    ensures out { out.new ≡ (finish agent (stores_of stores.old) out.old start (performed start (stores_of stores.old) d.now sample.now)).out }
+    ensures places { SamePlaces stores.old stores.new }
 {
-    if is_unbound(d, start) {
-        return go_unbound(
-            sessions, streams, objects, held, parts, lengths, rebuilt, out, d, sample, agent,
-            start, n,
-        );
-    }
     let room = out.len();
-    let need = needed(
-        sessions, streams, objects, held, parts, lengths, rebuilt, d, sample, start, n, room,
-    );
+    let long = sample.len();
+    let may_rebuild = is_unbound(d, start);
+    let sessions = &mut *stores.sessions;
+    let enough = is_enough(sessions, room, d, start, n, long, may_rebuild);
+    let need = needed(stores, d, sample, start, enough);
     if room < need {
         refused(agent, Refusal::OutputTooShort)
     } else {
-        let ran = perform_plain(sessions, streams, objects, held, out, d, sample, start);
+        let ran = act(stores, out, d, sample, start, may_rebuild);
         finished(agent, start, ran)
+    }
+}
+
+// Judged, and where nothing refuses the call, done.
+fn decide(
+    stores: &mut Stores,
+    hours: &[u8],
+    out: &mut [u8],
+    d: &[u8],
+    sample: &[u8],
+    agent: Agent,
+    input: Input,
+    given: Given,
+) -> Processed
+    ensures processed { result ≡ (process_of agent (stores_of stores.old) hours.now out.old d.now sample.now input given).processed }
+    ensures stores { stores_of stores.new ≡ (process_of agent (stores_of stores.old) hours.now out.old d.now sample.now input given).tables }
+    ensures out { out.new ≡ (process_of agent (stores_of stores.old) hours.now out.old d.now sample.now input given).out }
+    ensures places { SamePlaces stores.old stores.new }
+{
+    let j = judge(
+        stores,
+        hours,
+        d,
+        agent,
+        input,
+        given,
+        sample.len(),
+        out.len(),
+    );
+    match j {
+        Ok((start, n)) => go(stores, out, d, sample, agent, start, n),
+        Err(why) => refused(agent, why),
     }
 }
 
@@ -307,22 +249,14 @@ pub fn process(
         × (rebuilt.new ≡ (process_of agent (lent sessions.old streams.old objects.old held.old parts.old lengths.old rebuilt.old) hours.now out.old d.now sample.now input given).tables.rebuilt)
         × (out.new ≡ (process_of agent (lent sessions.old streams.old objects.old held.old parts.old lengths.old rebuilt.old) hours.now out.old d.now sample.now input given).out) }
 {
-    let long = sample.len();
-    let room = out.len();
-    let j = judge(
-        sessions, streams, objects, held, parts, lengths, rebuilt, hours, d, agent, input, given,
-        long, room,
-    );
-    let x = parts_of(j);
-    if x.goes {
-        let start = x.start;
-        let n = x.count;
-        go(
-            sessions, streams, objects, held, parts, lengths, rebuilt, out, d, sample, agent,
-            start, n,
-        )
-    } else {
-        let why = x.why;
-        refused(agent, why)
-    }
+    let mut stores = Stores {
+        sessions,
+        streams,
+        objects,
+        held,
+        parts,
+        lengths,
+        rebuilt,
+    };
+    decide(&mut stores, hours, out, d, sample, agent, input, given)
 }

@@ -1,5 +1,5 @@
 // What an ACKNACK asks for again (document 02, W5): the held messages, byte for byte, in the order of their bits.
-ghost use Rattle.std.specs.Prelude.{◌≡◌, map, ◌≤◌, length, take};
+ghost use Rattle.std.specs.Prelude.{◌≡◌, map, ◌≤◌, length};
 ghost use Rattle.codec.specs.Bytes.{put_bytes};
 ghost use Rattle.sessions.specs.Sending.{message_of};
 ghost use Rattle.agent.specs.Step.{replied};
@@ -30,7 +30,7 @@ fn repeat_one(
         × (out.new ≡ put_bytes out.old at (message_of sessions.now streams.now held.now f.session_id f.stream_id seq)) }
 {
     let m = message(sessions, streams, held, f.session_id, f.stream_id, seq);
-    put_bytes(out, at, m);
+    let _ = put_bytes(out, at, m);
     let n = m.len();
     count(f.room, at, n)
 }
@@ -43,17 +43,14 @@ fn repeat_all(
     f: Frame,
     at: usize,
     numbers: &[u16],
-    many: usize,
 ) -> usize
-    requires { (f.room ≤ 9223372036854775807) × (many ≤ length numbers.now) }
-    ensures { (result ≡ count_replies f.room at (map (replied f.session_id) (map (message_of sessions.now streams.now held.now f.session_id f.stream_id) (take many numbers.now))))
-        × (out.new ≡ put_replies f.room out.old at (map (replied f.session_id) (map (message_of sessions.now streams.now held.now f.session_id f.stream_id) (take many numbers.now)))) }
+    requires { f.room ≤ 9223372036854775807 }
+    ensures { (result ≡ count_replies f.room at (map (replied f.session_id) (map (message_of sessions.now streams.now held.now f.session_id f.stream_id) numbers.now)))
+        × (out.new ≡ put_replies f.room out.old at (map (replied f.session_id) (map (message_of sessions.now streams.now held.now f.session_id f.stream_id) numbers.now))) }
 {
     let mut w = at;
-    let mut i: usize = 0;
-    while i < many {
-        w = repeat_one(sessions, streams, held, out, f, w, numbers[i]);
-        i += 1;
+    for number in numbers {
+        w = repeat_one(sessions, streams, held, out, f, w, *number);
     }
     w
 }
@@ -74,8 +71,7 @@ fn repeat(
     let r = read_stream(sessions, streams, f.session_id, f.stream_id);
     let s = r.state;
     let a = s.list_repeats(p.first_unacked_seq, p.nack_bitmap);
-    let numbers = a.repeats;
-    repeat_all(sessions, streams, held, out, f, at, &numbers, a.count)
+    repeat_all(sessions, streams, held, out, f, at, &a.repeats[..a.count])
 }
 
 // The replies to a submessage, from `at` on; the place behind them. "Replies carry .., CREATE_CLIENT's apart, the header's

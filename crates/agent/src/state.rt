@@ -3,7 +3,7 @@ use codec::submessages::ObjectNumber;
 use moves::proxy::Task;
 
 // What the host gives with a datagram: its time in milliseconds, and its weekday and minute (document 02, W8).
-#[derive(Clone, Copy)]
+#[derive(Clone, Copy, Debug, PartialEq, Eq)]
 pub struct Given {
     pub time: u64,
     pub day: u8,
@@ -11,7 +11,7 @@ pub struct Given {
 }
 
 // What a datagram's submessages go by, those behind a bridge answer too: its time, and whether its minute is open, which is looked up once, when it comes.
-#[derive(Clone, Copy)]
+#[derive(Clone, Copy, Debug, PartialEq, Eq)]
 pub struct Moment {
     pub time: u64,
     pub is_open: bool,
@@ -20,7 +20,7 @@ pub struct Moment {
 // The submessage of the open call: its header's session and stream, its object, what the call is for, the place behind it
 // in its datagram, and that datagram's moment. If it was rebuilt from fragments (document 02, W6), the call shows parts of the first
 // `left_end` rebuilt bytes, and the submessages from `left_at` on wait behind it; else both are 0.
-#[derive(Clone, Copy)]
+#[derive(Clone, Copy, Debug, PartialEq, Eq)]
 pub struct Pending {
     pub session_id: u8,
     pub stream_id: u8,
@@ -32,17 +32,11 @@ pub struct Pending {
     pub left_end: usize,
 }
 
-#[derive(Clone, Copy)]
-pub enum Waiting {
-    Nothing,
-    Call(Pending),
-}
-
 // Its limits, the id pointer, and the open bridge call.
-#[derive(Clone, Copy)]
+#[derive(Clone, Copy, Debug, PartialEq, Eq)]
 pub struct Agent {
     pub max_clients: usize,
     pub timeout_ms: u64,
     pub next: u8,
-    pub waits: Waiting,
+    pub waits: Option<Pending>,
 }

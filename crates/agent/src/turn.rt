@@ -10,18 +10,19 @@ use crate::clients::{pointer, put_greeting};
 use crate::repeats::answer;
 use crate::replies::count;
 use crate::state::Moment;
-use codec::layouts::{Parsed, Span};
-use codec::submessages::ObjectNumber;
+use codec::layouts::{Cursor, Span};
+use codec::refusals::Refusal;
+use codec::submessages::{ObjectNumber, Submessage};
 use moves::handle::{Asked, Opening, asks, blank, handle};
 use moves::moves::Move;
 use moves::proxy::{BridgeCall, Task};
 use sessions::objects::Object;
 use sessions::opening::create_session;
 use sessions::stream_rows::StreamRow;
-use sessions::table::{Named, SessionRow, touch};
+use sessions::table::{SessionRow, touch};
 
 // What a datagram's submessages have in common: the limit, the moment, the header's session and stream, and the output's room.
-#[derive(Clone, Copy)]
+#[derive(Clone, Copy, Debug, PartialEq, Eq)]
 pub(crate) struct Frame {
     pub max_clients: usize,
     pub moment: Moment,
@@ -32,7 +33,7 @@ pub(crate) struct Frame {
 
 // A call ends the run: of a submessage as it stands in its bytes; or of a rebuilt one, with the place behind it in the rebuilt
 // bytes, and how many these are.
-#[derive(Clone, Copy)]
+#[derive(Clone, Copy, Debug, PartialEq, Eq)]
 pub(crate) enum Stop {
     Nothing,
     Call(ObjectNumber, Task, BridgeCall),
@@ -40,7 +41,7 @@ pub(crate) enum Stop {
 }
 
 // A run so far: the id pointer, the place in the datagram, the bytes replied, and the call that ends it, if any.
-#[derive(Clone, Copy)]
+#[derive(Clone, Copy, Debug, PartialEq, Eq)]
 pub(crate) struct Ran {
     pub next: u8,
     pub at: usize,
@@ -53,11 +54,11 @@ fn stop_of(m: Move) -> Stop
 {
     match m {
         Move::Calls(number, task, call) => Stop::Call(number, task, call),
-        Move::Greets(_, _) => Stop::Nothing,
-        Move::Status(_, _) => Stop::Nothing,
-        Move::Acknack(_) => Stop::Nothing,
-        Move::Repeats(_) => Stop::Nothing,
-        Move::Silent => Stop::Nothing,
+        Move::Greets(_, _)
+        | Move::Status(_, _)
+        | Move::Acknack(_)
+        | Move::Repeats(_)
+        | Move::Silent => Stop::Nothing,
     }
 }
 
@@ -114,35 +115,31 @@ pub(crate) fn passed(r: Ran, at: usize) -> Ran
     }
 }
 
-pub(crate) fn is_live(named: Named) -> bool
+pub(crate) fn is_live(named: Result<bool, Refusal>) -> bool
     ensures { result ≡ is_live named }
 {
-    match named {
-        Named::Live => true,
-        Named::NotLive => false,
-        Named::Refused(_) => false,
-    }
+    matches!(named, Ok(true))
 }
 
 // What was read at a place of the datagram, taken apart: what it asks for, its body, and where the next one begins. Where
 // no submessage was read, the next place is the end.
-#[derive(Clone, Copy)]
+#[derive(Clone, Copy, Debug, PartialEq, Eq)]
 pub(crate) struct Taken {
     pub asked: Asked,
     pub body: Span,
     pub at: usize,
 }
 
-pub(crate) fn take_apart(p: Parsed, len: usize) -> Taken
+pub(crate) fn take_apart(p: Result<(Submessage, Span, Cursor), Refusal>, len: usize) -> Taken
     ensures { result ≡ taken_of p len }
 {
     match p {
-        Parsed::Sub(m, body, next) => Taken {
+        Ok((m, body, next)) => Taken {
             asked: asks(m),
             body,
             at: next.at,
         },
-        Parsed::Refused(_) => Taken {
+        Err(_) => Taken {
             asked: blank(Opening::Unread),
             body: Span { start: 0, len: 0 },
             at: len,
@@ -151,6 +148,7 @@ pub(crate) fn take_apart(p: Parsed, len: usize) -> Taken
 }
 
 // Any other submessage, over the bytes that it stands in: "the session is touched first with the datagram's time."
+// On slices: its bytes may be the rebuilt ones, which are a field of `Stores`.
 pub(crate) fn deliver(
     sessions: &mut [SessionRow],
     streams: &mut [StreamRow],

@@ -11,10 +11,10 @@ use lib.Seq.{get_or-set_same}
 use Rattle.moves.specs.declared.proxy.Task.{Task}
 use Rattle.moves.specs.declared.proxy.Task.TheVariants.{Creating, Writing, Reading, Deleting}
 use Rattle.agent.specs.declared.state.Agent.{Agent}
-use Rattle.agent.specs.declared.state.Waiting.{Waiting}
-use Rattle.agent.specs.declared.state.Waiting.TheVariants as waiting
 use Rattle.cabi.specs.Record.{record_of, record_at, task_in, agent_in, task_number, task_kind, task_parent, open_number, record_by, record_for, row_of, kept_in}
 use Rattle.cabi.specs.declared.told.Told.{Told}
+use Rattle.std.specs.Prelude.{None, Option, Some}
+use Rattle.agent.specs.declared.state.Pending.{Pending}
 
 -- the numbers of an open call, as the types of the code have them
 abbrev pub TaskFits : Task → Type 0
@@ -23,9 +23,9 @@ TaskFits Writing = Unit {0}
 TaskFits Reading = Unit {0}
 TaskFits Deleting = Unit {0}
 
-abbrev pub WaitsFit : Waiting → Type 0
-WaitsFit waiting.Nothing = Unit {0}
-WaitsFit (waiting.Call p) =
+abbrev pub WaitsFit : Option Pending → Type 0
+WaitsFit None = Unit {0}
+WaitsFit (Some p) =
     (p.session_id ≤ 255) × (p.stream_id ≤ 255) × (p.number.0 ≤ 65535) × TaskFits p.task
 
 task_back : (t : Task) → TaskFits t → task_in (task_number t) (task_kind t) (task_parent t) ≡ t
@@ -65,13 +65,13 @@ open_back : (b : Bool) → eqb (open_number b) 1 ≡ b
 open_back true = refl
 open_back false = refl
 
-agent_back : (max timeout next : ℕ) (w : Waiting) → next ≤ 255 → WaitsFit w
+agent_back : (max timeout next : ℕ) (w : Option Pending) → next ≤ 255 → WaitsFit w
     → agent_in (record_by w max timeout next) ≡ record { max_clients = max; timeout_ms = timeout; next = next; waits = w }
 unfolding agent_in
-agent_back max timeout next waiting.Nothing h f =
+agent_back max timeout next None h f =
     let e : next % 256 ≡ next = omega (arith, h) in
     rw (le-leb next 255 h, e)
-agent_back max timeout next (waiting.Call p) h f =
+agent_back max timeout next (Some p) h f =
     let session = f.0 in
     let stream = f.1 in
     let number = f.2 in

@@ -1,13 +1,11 @@
 -- The exported calls, in the agent's own definitions: each is the agent's call on the agent that the record says.
-use Rattle.std.specs.Prelude.{ℕ, cond, List, [], eqb, leb, length}
+use Rattle.std.specs.Prelude.{ℕ, cond, List, [], eqb, leb, length, Err, Ok, Result}
 use Rattle.hours.specs.Windows.{windows_of}
 use Rattle.hours.specs.Week.{kept_hours}
 use Rattle.sessions.specs.Calls.{set_up_tables}
 use Rattle.sessions.specs.Setup.{leaves}
 use Rattle.sessions.specs.View.{Tables}
 use Rattle.agent.specs.Host.{Leaves, process_of, set_up_judged, set_up_as, idle_of, removed_by, removed_rows, swept_by, swept_rows, swept_out}
-use Rattle.agent.specs.declared.agent.AgentSetUp.{AgentSetUp}
-use Rattle.agent.specs.declared.agent.AgentSetUp.TheVariants as ready
 use Rattle.agent.specs.declared.judge.Input.{Input}
 use Rattle.agent.specs.declared.state.Given.{Given}
 use Rattle.agent.specs.declared.judge.Input.TheVariants.{Datagram, Answer}
@@ -15,6 +13,9 @@ use Rattle.moves.specs.declared.proxy.BridgeAnswer.{BridgeAnswer}
 use Rattle.moves.specs.declared.proxy.BridgeAnswer.TheVariants.{Created, Done, Sample, NoSample, Failed}
 use Rattle.cabi.specs.Answers.{refused_as, outcome_as, removed_as, swept_as}
 use Rattle.cabi.specs.Record.{record_at, agent_in, record_for, nothing_told, kept_in, records_after}
+use Rattle.agent.specs.declared.state.Agent.{Agent}
+use Rattle.codec.specs.declared.refusals.Refusal.{Refusal}
+use Rattle.codec.specs.declared.refusals.Refusal.TheVariants.{OutOfTurn, OverLimit}
 
 -- what a call leaves: its answer, the agent's record, the tables with the stores, the week's minutes, the lent output
 pub record Left : Type 0 where
@@ -42,6 +43,14 @@ answer_in input handle =
 abbrev pub input_in : ℕ → ℕ → Input
 input_in input handle = cond (eqb input 0) Datagram (Answer (answer_in input handle))
 
+-- the input that the number names, or 15
+abbrev pub input_named : ℕ → ℕ → Result Input Refusal
+input_named input handle = cond (leb input 5) (Ok (input_in input handle)) (Err OutOfTurn)
+
+-- the agent and its input, or why there is none: `bad_call` as a refusal
+abbrev pub called : List (List ℕ) → ℕ → ℕ → Result (Agent × Input) Refusal
+called w input handle = cond (leb input 5) (cond (eqb (length w) 0) (Err OverLimit) (Ok (agent_in (record_at w), input_in input handle))) (Err OutOfTurn)
+
 -- a datagram comes with its time, weekday and minute (W8)
 abbrev pub given_in : ℕ → ℕ → ℕ → Given
 given_in time day minute = record { time = time; day = day; minute = minute }
@@ -56,13 +65,13 @@ process_left w t hours out d sample input time day minute handle =
 
 -- ---- set-up
 
-abbrev pub ready_records : List (List ℕ) → AgentSetUp → List (List ℕ)
-ready_records w (ready.Ready a) = kept_in w (record_for a) (nothing_told 0)
-ready_records w (ready.Refused r) = w
+abbrev pub ready_records : List (List ℕ) → Result Agent Refusal → List (List ℕ)
+ready_records w (Ok a) = kept_in w (record_for a) (nothing_told 0)
+ready_records w (Err r) = w
 
-abbrev pub ready_as : AgentSetUp → ℕ
-ready_as (ready.Ready a) = 0
-ready_as (ready.Refused r) = refused_as r
+abbrev pub ready_as : Result Agent Refusal → ℕ
+ready_as (Ok a) = 0
+ready_as (Err r) = refused_as r
 
 -- what the windows open is kept until the next set-up (W8)
 unfoldable pub set_up_left : List (List ℕ) → Tables → List ℕ → List (List ℕ) → ℕ → ℕ → Left

@@ -1,7 +1,7 @@
 -- The agent's record as a C host keeps it: a row of twenty-two numbers, each in the place of its field of `struct xrce_agent`.
-use Rattle.std.specs.Prelude.{ℕ, ◌%◌, Bool, true, false, cond, List, [], ◌∷◌, eqb, leb, get_or, set}
+use Rattle.std.specs.Prelude.{ℕ, ◌%◌, Bool, true, false, cond, List, [], ◌∷◌, eqb, leb, length, get_or, set, Err, None, Ok, Option, Result, Some}
 use Rattle.agent.specs.declared.process.Outcome.{Outcome}
-use Rattle.agent.specs.declared.process.Outcome.TheVariants.{Replied, Called, Refused}
+use Rattle.agent.specs.declared.process.Outcome.TheVariants.{Replied, Called}
 use Rattle.agent.specs.declared.process.Processed.{Processed}
 use Rattle.moves.specs.declared.proxy.BridgeCall.{BridgeCall}
 use Rattle.moves.specs.declared.proxy.BridgeCall.TheVariants.{CreateParticipant, CreateTopic, CreateWriter, CreateReader, WriteData, ReadData, DeleteEntity}
@@ -10,10 +10,10 @@ use Rattle.moves.specs.declared.proxy.Task.TheVariants.{Creating, Writing, Readi
 use Rattle.agent.specs.declared.state.Agent.{Agent}
 use Rattle.agent.specs.declared.state.Moment.{Moment}
 use Rattle.agent.specs.declared.state.Pending.{Pending}
-use Rattle.agent.specs.declared.state.Waiting.{Waiting}
-use Rattle.agent.specs.declared.state.Waiting.TheVariants as waiting
 use Rattle.cabi.specs.declared.record.Record.{Record}
 use Rattle.cabi.specs.declared.told.Told.{Told}
+use Rattle.codec.specs.declared.refusals.Refusal.{Refusal}
+use Rattle.codec.specs.declared.refusals.Refusal.TheVariants.{OverLimit}
 
 -- ---- the first fourteen numbers: the agent between two calls
 
@@ -61,8 +61,8 @@ pending_in r =
       left_end = r.left_end;
     }
 
-abbrev pub waits_in : Record → Waiting
-waits_in r = cond (eqb r.task 0) waiting.Nothing (waiting.Call (pending_in r))
+abbrev pub waits_in : Record → Option Pending
+waits_in r = cond (eqb r.task 0) None (Some (pending_in r))
 
 -- 16, "altered past a limit": a number that its field can't have makes the id pointer 0, which the agent refuses so right after 15
 abbrev pub in_range : Record → Bool
@@ -77,6 +77,10 @@ next_in r = cond (in_range r) (r.next % 256) 0
 
 unfoldable pub agent_in : Record → Agent
 agent_in r = record { max_clients = r.max_clients; timeout_ms = r.timeout_ms; next = next_in r; waits = waits_in r }
+
+-- the agent that the first record says; 16 where none is lent
+abbrev pub agent_at : List (List ℕ) → Result Agent Refusal
+agent_at rows = cond (eqb (length rows) 0) (Err OverLimit) (Ok (agent_in (record_at rows)))
 
 -- ---- the same numbers of an agent
 
@@ -124,9 +128,9 @@ open_record max timeout next p =
       left_end = p.left_end;
     }
 
-abbrev pub record_by : Waiting → ℕ → ℕ → ℕ → Record
-record_by waiting.Nothing max timeout next = idle_record max timeout next
-record_by (waiting.Call p) max timeout next = open_record max timeout next p
+abbrev pub record_by : Option Pending → ℕ → ℕ → ℕ → Record
+record_by None max timeout next = idle_record max timeout next
+record_by (Some p) max timeout next = open_record max timeout next p
 
 unfoldable pub record_for : Agent → Record
 record_for a = record_by a.waits a.max_clients a.timeout_ms a.next
@@ -150,10 +154,10 @@ call_told (DeleteEntity h) n = told n 7 h.0 0 0 0 0 0
 unfoldable pub nothing_told : ℕ → Told
 nothing_told n = told n 0 0 0 0 0 0 0
 
-unfoldable pub told_of : Outcome → Told
-told_of (Replied n) = nothing_told n
-told_of (Called call n) = call_told call n
-told_of (Refused r) = nothing_told 0
+unfoldable pub told_of : Result Outcome Refusal → Told
+told_of (Ok (Replied n)) = nothing_told n
+told_of (Ok (Called call n)) = call_told call n
+told_of (Err r) = nothing_told 0
 
 -- ---- the whole row
 
@@ -167,10 +171,9 @@ abbrev pub kept_in : List (List ℕ) → Record → Told → List (List ℕ)
 kept_in rows r t = set rows 0 (row_of r t)
 
 -- a refused call leaves the record as it was
-abbrev pub is_refused : Outcome → Bool
-is_refused (Replied n) = false
-is_refused (Called call n) = false
-is_refused (Refused r) = true
+abbrev pub is_refused : Result Outcome Refusal → Bool
+is_refused (Ok o) = false
+is_refused (Err r) = true
 
 abbrev pub records_after : List (List ℕ) → Processed → List (List ℕ)
 records_after rows p = cond (is_refused p.outcome) rows (kept_in rows (record_for p.agent) (told_of p.outcome))

@@ -1,83 +1,60 @@
 // A call's answer as one number: the refusal's number (0: none), 256 times its byte, and 65,536 times the number that comes
 // with "none".
-ghost use Rattle.std.specs.Prelude.{◌≡◌};
-ghost use Rattle.cabi.specs.Answers.{refused_as, outcome_as, removed_as, swept_as, listed_as, minute_as, first_open_as, needed_as};
+ghost use Rattle.std.specs.Prelude.{◌≡◌, ◌*◌};
+ghost use Rattle.cabi.specs.Answers.{refused_as, answer_as, outcome_as, removed_as, counted_as, minute_as, first_open_as, needed_as};
 
-use agent::agent::Removed;
 use agent::process::Outcome;
-use codec::bytes::Written;
 use codec::refusals::Refusal;
-use hours::week::FirstOpen;
-use sessions::need::Needed;
-use sessions::object_list::Listed;
+use sessions::need::Need;
 
 pub(crate) fn refused_as(x: Refusal) -> u64
     ensures { result ≡ refused_as x }
 {
-    let number = x.number() as u64;
-    let byte = x.byte() as u64;
-    number + 256 * byte
+    u64::from(x.number()) + 256 * u64::from(x.byte())
 }
 
-pub(crate) fn outcome_as(o: Outcome) -> u64
+fn answer_as(x: Result<u32, Refusal>) -> u64
+    ensures { result ≡ answer_as x }
+{
+    match x {
+        Ok(n) => 65536 * u64::from(n),
+        Err(r) => refused_as(r),
+    }
+}
+
+pub(crate) fn outcome_as(o: Result<Outcome, Refusal>) -> u64
     ensures { result ≡ outcome_as o }
 {
-    match o {
-        Outcome::Replied(_) => 0,
-        Outcome::Called(_, _) => 0,
-        Outcome::Refused(x) => refused_as(x),
-    }
+    answer_as(o.map(|_| 0))
 }
 
-pub(crate) fn removed_as(x: Removed) -> u64
+pub(crate) fn removed_as(x: Result<bool, Refusal>) -> u64
     ensures { result ≡ removed_as x }
 {
-    match x {
-        Removed::Session => 65536,
-        Removed::NotLive => 0,
-        Removed::Refused(r) => refused_as(r),
-    }
+    answer_as(x.map(u32::from))
 }
 
-pub(crate) fn swept_as(x: Written) -> u64
-    ensures { result ≡ swept_as x }
+// How many a sweep or a listing has.
+pub(crate) fn counted_as(x: Result<usize, Refusal>) -> u64
+    ensures { result ≡ counted_as x }
 {
-    match x {
-        Written::Bytes(n) => 65536 * ((n % 65536) as u64),
-        Written::Refused(r) => refused_as(r),
-    }
+    answer_as(x.map(|n| (n % 65536) as u32))
 }
 
-pub(crate) fn listed_as(x: Listed) -> u64
-    ensures { result ≡ listed_as x }
+fn minute_as(day: u8, minute: u16) -> u32
+    ensures { 65536 * result ≡ minute_as day minute }
 {
-    match x {
-        Listed::Numbers(n) => 65536 * ((n % 65536) as u64),
-        Listed::Refused(r) => refused_as(r),
-    }
+    1 + 1440 * u32::from(day) + u32::from(minute)
 }
 
-fn minute_as(day: u8, minute: u16) -> u64
-    ensures { result ≡ minute_as day minute }
-{
-    65536 * (1 + 1440 * (day as u64) + (minute as u64))
-}
-
-pub(crate) fn first_open_as(x: FirstOpen) -> u64
+pub(crate) fn first_open_as(x: Result<Option<(u8, u16)>, Refusal>) -> u64
     ensures { result ≡ first_open_as x }
 {
-    match x {
-        FirstOpen::At(day, minute) => minute_as(day, minute),
-        FirstOpen::Never => 0,
-        FirstOpen::Refused(r) => refused_as(r),
-    }
+    answer_as(x.map(|first| first.map_or(0, |(day, minute)| minute_as(day, minute))))
 }
 
-pub(crate) fn needed_as(x: Needed) -> u64
+pub(crate) fn needed_as(x: Result<Need, Refusal>) -> u64
     ensures { result ≡ needed_as x }
 {
-    match x {
-        Needed::Stores(n) => 65536 * ((n.bytes % 4294967296) as u64),
-        Needed::Refused(r) => refused_as(r),
-    }
+    answer_as(x.map(|n| (n.bytes % 4294967296) as u32))
 }

@@ -1,55 +1,34 @@
 // What a C host hands in, as numbers: a datagram or one of the bridge's five answers.
 ghost use Rattle.std.specs.Prelude.{◌≡◌};
-ghost use Rattle.cabi.specs.Calls.{bad_call, answer_in, input_in, given_in};
+ghost use Rattle.cabi.specs.Calls.{called, input_named};
 
+use crate::record::{RecordRow, agent_at};
 use agent::judge::Input;
-use agent::state::Given;
+use agent::state::Agent;
+use codec::refusals::Refusal;
 use moves::proxy::BridgeAnswer;
 use sessions::objects::Handle;
 
-// 15, "answer of another kind", where the number names no input; 16 where no record is lent; else 0.
-pub(crate) fn bad_call(records: usize, input: u8) -> u64
-    ensures { result ≡ bad_call records input }
+// 15, "answer of another kind", where the number names none.
+fn input_in(input: u8, handle: u32) -> Result<Input, Refusal>
+    ensures { result ≡ input_named input handle }
 {
-    if 5 < input {
-        return 15;
-    }
-    if records == 0 {
-        return 16;
-    }
-    0
+    let answer = match input {
+        0 => return Ok(Input::Datagram),
+        1 => BridgeAnswer::Created(Handle(handle)),
+        2 => BridgeAnswer::Done,
+        3 => BridgeAnswer::Sample,
+        4 => BridgeAnswer::NoSample,
+        5 => BridgeAnswer::Failed,
+        _ => return Err(Refusal::OutOfTurn),
+    };
+    Ok(Input::Answer(answer))
 }
 
-fn answer_in(input: u8, handle: u32) -> BridgeAnswer
-    ensures { result ≡ answer_in input handle }
+// The agent that the record says, and what it is called with: 15 of the input comes before 16 of the record.
+pub(crate) fn called(agent: &[RecordRow], input: u8, handle: u32) -> Result<(Agent, Input), Refusal>
+    ensures { result ≡ called agent.now input handle }
 {
-    if input == 1 {
-        return BridgeAnswer::Created(Handle(handle));
-    }
-    if input == 2 {
-        return BridgeAnswer::Done;
-    }
-    if input == 3 {
-        return BridgeAnswer::Sample;
-    }
-    if input == 4 {
-        return BridgeAnswer::NoSample;
-    }
-    BridgeAnswer::Failed
-}
-
-pub(crate) fn input_in(input: u8, handle: u32) -> Input
-    ensures { result ≡ input_in input handle }
-{
-    if input == 0 {
-        return Input::Datagram;
-    }
-    Input::Answer(answer_in(input, handle))
-}
-
-// What comes with a datagram; with an answer it isn't looked at (document 02, W8).
-pub(crate) fn given_in(time: u64, day: u8, minute: u16) -> Given
-    ensures { result ≡ given_in time day minute }
-{
-    Given { time, day, minute }
+    let input = input_in(input, handle)?;
+    Ok((agent_at(agent)?, input))
 }

@@ -1,8 +1,9 @@
 // The agent's record as a C host keeps it: the first fourteen of its twenty-two numbers are the agent between two calls.
 ghost use Rattle.std.specs.Prelude.{◌≡◌};
-ghost use Rattle.cabi.specs.Record.{record_at, task_in, moment_in, pending_in, waits_in, in_range, next_in, agent_in, task_number, task_kind, task_parent, open_number, idle_record, open_record, record_by, record_for};
+ghost use Rattle.cabi.specs.Record.{agent_at, task_in, pending_in, in_range, task_number, task_kind, task_parent, open_record};
 
-use agent::state::{Agent, Moment, Pending, Waiting};
+use agent::state::{Agent, Moment, Pending};
+use codec::refusals::Refusal;
 use codec::submessages::ObjectNumber;
 use moves::proxy::Task;
 
@@ -12,7 +13,7 @@ pub(crate) type RecordRow = [u64; 22];
 // session, stream, object number and place, its datagram's time and whether that datagram's minute is open (document 02, W8: 1,
 // else closed), and, if its submessage was rebuilt from fragments, the place behind it in the rebuilt bytes and how many these
 // are.
-#[derive(Clone, Copy)]
+#[derive(Clone, Copy, Debug, Default, PartialEq, Eq)]
 pub(crate) struct Record {
     pub max_clients: u64,
     pub timeout_ms: u64,
@@ -30,36 +31,54 @@ pub(crate) struct Record {
     pub left_end: u64,
 }
 
-fn no_record() -> Record
-    ensures { result ≡ idle_record 0 0 0 }
-{
-    idle_record(0, 0, 0)
+impl From<&RecordRow> for Record {
+    ghost use Rattle.cabi.specs.Record.{record_of};
+
+    ghost from_gives = { λ row r. r ≡ record_of row.now };
+
+    fn from(row: &RecordRow) -> Record {
+        let [
+            max_clients,
+            timeout_ms,
+            next,
+            task,
+            kind,
+            parent,
+            session,
+            stream,
+            number,
+            at,
+            time,
+            is_open,
+            left_at,
+            left_end,
+            ..
+        ] = *row;
+        Record {
+            max_clients,
+            timeout_ms,
+            next,
+            task,
+            kind,
+            parent,
+            session,
+            stream,
+            number,
+            at,
+            time,
+            is_open,
+            left_at,
+            left_end,
+        }
+    }
 }
 
-// The first record lent; where there is none, all is 0.
-pub(crate) fn record_at(rows: &[RecordRow]) -> Record
-    ensures { result ≡ record_at rows.now }
+// The agent that the first record lent says; 16 where there is none.
+pub(crate) fn agent_at(rows: &[RecordRow]) -> Result<Agent, Refusal>
+    ensures { result ≡ agent_at rows.now }
 {
-    if 0 < rows.len() {
-        Record {
-            max_clients: rows[0][0],
-            timeout_ms: rows[0][1],
-            next: rows[0][2],
-            task: rows[0][3],
-            kind: rows[0][4],
-            parent: rows[0][5],
-            session: rows[0][6],
-            stream: rows[0][7],
-            number: rows[0][8],
-            at: rows[0][9],
-            time: rows[0][10],
-            is_open: rows[0][11],
-            left_at: rows[0][12],
-            left_end: rows[0][13],
-        }
-    } else {
-        no_record()
-    }
+    let row = rows.first().ok_or(Refusal::OverLimit)?;
+    Ok(Record::from(row).into())
 }
 
 // ---- the agent that it says
@@ -67,25 +86,11 @@ pub(crate) fn record_at(rows: &[RecordRow]) -> Record
 fn task_in(n: u64, kind: u64, parent: u64) -> Task
     ensures { result ≡ task_in n kind parent }
 {
-    if n == 1 {
-        return Task::Creating((kind % 256) as u8, (parent % 65536) as u16);
-    }
-    if n == 2 {
-        return Task::Writing;
-    }
-    if n == 3 {
-        return Task::Reading;
-    }
-    Task::Deleting
-}
-
-// What its datagram came with.
-fn moment_in(r: Record) -> Moment
-    ensures { result ≡ moment_in r }
-{
-    Moment {
-        time: r.time,
-        is_open: r.is_open == 1,
+    match n {
+        1 => Task::Creating((kind % 256) as u8, (parent % 65536) as u16),
+        2 => Task::Writing,
+        3 => Task::Reading,
+        _ => Task::Deleting,
     }
 }
 
@@ -98,171 +103,101 @@ fn pending_in(r: Record) -> Pending
         number: ObjectNumber((r.number % 65536) as u16),
         task: task_in(r.task, r.kind, r.parent),
         at: r.at as usize,
-        moment: moment_in(r),
+        moment: Moment {
+            time: r.time,
+            is_open: r.is_open == 1,
+        },
         left_at: r.left_at as usize,
         left_end: r.left_end as usize,
     }
-}
-
-fn waits_in(r: Record) -> Waiting
-    ensures { result ≡ waits_in r }
-{
-    if r.task == 0 {
-        return Waiting::Nothing;
-    }
-    Waiting::Call(pending_in(r))
 }
 
 // Whether every number is one that its field can have.
 fn in_range(r: Record) -> bool
     ensures { result ≡ in_range r }
 {
-    if 255 < r.next {
-        return false;
-    }
-    if 4 < r.task {
-        return false;
-    }
-    if 255 < r.kind {
-        return false;
-    }
-    if 255 < r.session {
-        return false;
-    }
-    if 255 < r.stream {
-        return false;
-    }
-    if 65535 < r.number {
-        return false;
-    }
-    r.parent <= 65535
+    r.next <= 255
+        && r.task <= 4
+        && r.kind <= 255
+        && r.session <= 255
+        && r.stream <= 255
+        && r.number <= 65535
+        && r.parent <= 65535
 }
 
 // A number that its field can't have is read as an id pointer of 0, which the agent refuses as 16 right after 15.
-fn next_in(r: Record) -> u8
-    ensures { result ≡ next_in r }
-{
-    if in_range(r) {
-        return (r.next % 256) as u8;
-    }
-    0
-}
+impl From<Record> for Agent {
+    ghost use Rattle.cabi.specs.Record.{agent_in};
 
-pub(crate) fn agent_in(r: Record) -> Agent
-    ensures { result ≡ agent_in r }
-{
-    let next = next_in(r);
-    let waits = waits_in(r);
-    Agent {
-        max_clients: r.max_clients as usize,
-        timeout_ms: r.timeout_ms,
-        next,
-        waits,
+    ghost from_gives = { λ r a. a ≡ agent_in r };
+
+    #[tactic(auto, unfolding(crate::specs::Record::agent_in))]
+    fn from(r: Record) -> Agent {
+        let next = if in_range(r) { (r.next % 256) as u8 } else { 0 };
+        let waits = if r.task == 0 {
+            None
+        } else {
+            Some(pending_in(r))
+        };
+        Agent {
+            max_clients: r.max_clients as usize,
+            timeout_ms: r.timeout_ms,
+            next,
+            waits,
+        }
     }
 }
 
 // ---- the numbers of an agent
 
-fn task_number(t: Task) -> u64
-    ensures { result ≡ task_number t }
+// The task's number, and the kind and the parent number of a CREATE's.
+fn task_numbers(t: Task) -> (u64, u64, u64)
+    ensures { result ≡ (task_number t, task_kind t, task_parent t) }
 {
     match t {
-        Task::Creating(_, _) => 1,
-        Task::Writing => 2,
-        Task::Reading => 3,
-        Task::Deleting => 4,
+        Task::Creating(kind, parent) => (1, u64::from(kind), u64::from(parent)),
+        Task::Writing => (2, 0, 0),
+        Task::Reading => (3, 0, 0),
+        Task::Deleting => (4, 0, 0),
     }
 }
 
-fn task_kind(t: Task) -> u64
-    ensures { result ≡ task_kind t }
+fn open_record(idle: Record, p: Pending) -> Record
+    ensures { result ≡ open_record idle.max_clients idle.timeout_ms idle.next p }
 {
-    match t {
-        Task::Creating(kind, _) => kind as u64,
-        Task::Writing => 0,
-        Task::Reading => 0,
-        Task::Deleting => 0,
-    }
-}
-
-fn task_parent(t: Task) -> u64
-    ensures { result ≡ task_parent t }
-{
-    match t {
-        Task::Creating(_, parent) => parent as u64,
-        Task::Writing => 0,
-        Task::Reading => 0,
-        Task::Deleting => 0,
-    }
-}
-
-fn open_number(is_open: bool) -> u64
-    ensures { result ≡ open_number is_open }
-{
-    if is_open { 1 } else { 0 }
-}
-
-fn idle_record(max_clients: u64, timeout_ms: u64, next: u64) -> Record
-    ensures { result ≡ idle_record max_clients timeout_ms next }
-{
+    let (task, kind, parent) = task_numbers(p.task);
     Record {
-        max_clients,
-        timeout_ms,
-        next,
-        task: 0,
-        kind: 0,
-        parent: 0,
-        session: 0,
-        stream: 0,
-        number: 0,
-        at: 0,
-        time: 0,
-        is_open: 0,
-        left_at: 0,
-        left_end: 0,
-    }
-}
-
-fn open_record(max_clients: u64, timeout_ms: u64, next: u64, p: Pending) -> Record
-    ensures { result ≡ open_record max_clients timeout_ms next p }
-{
-    let task = p.task;
-    let number = p.number;
-    let moment = p.moment;
-    let n = task_number(task);
-    let kind = task_kind(task);
-    let parent = task_parent(task);
-    let is_open = open_number(moment.is_open);
-    Record {
-        max_clients,
-        timeout_ms,
-        next,
-        task: n,
+        task,
         kind,
         parent,
         session: p.session_id as u64,
         stream: p.stream_id as u64,
-        number: number.0 as u64,
+        number: p.number.0 as u64,
         at: p.at as u64,
-        time: moment.time,
-        is_open,
+        time: p.moment.time,
+        is_open: u64::from(p.moment.is_open),
         left_at: p.left_at as u64,
         left_end: p.left_end as u64,
+        ..idle
     }
 }
 
-fn record_by(waits: Waiting, max_clients: u64, timeout_ms: u64, next: u64) -> Record
-    ensures { result ≡ record_by waits max_clients timeout_ms next }
-{
-    match waits {
-        Waiting::Nothing => idle_record(max_clients, timeout_ms, next),
-        Waiting::Call(p) => open_record(max_clients, timeout_ms, next, p),
-    }
-}
+impl From<Agent> for Record {
+    ghost use Rattle.cabi.specs.Record.{record_for};
 
-pub(crate) fn record_for(a: Agent) -> Record
-    ensures { result ≡ record_for a }
-{
-    let waits = a.waits;
-    record_by(waits, a.max_clients as u64, a.timeout_ms, a.next as u64)
+    ghost from_gives = { λ a r. r ≡ record_for a };
+
+    #[tactic(auto, unfolding(crate::specs::Record::record_for))]
+    fn from(a: Agent) -> Record {
+        let idle = Record {
+            max_clients: a.max_clients as u64,
+            timeout_ms: a.timeout_ms,
+            next: a.next as u64,
+            ..Record::default()
+        };
+        match a.waits {
+            None => idle,
+            Some(p) => open_record(idle, p),
+        }
+    }
 }

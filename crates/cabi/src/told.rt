@@ -1,14 +1,14 @@
 // What a call told, as the other eight numbers of the record; and the record written whole.
-ghost use Rattle.std.specs.Prelude.{◌≡◌};
-ghost use Rattle.cabi.specs.Record.{told, nothing_told, call_told, told_of, kept_in, is_refused, records_after};
+ghost use Rattle.std.specs.Prelude.{◌≡◌, Ok};
+ghost use Rattle.cabi.specs.Record.{told, nothing_told, call_told, told_of, kept_in, records_after};
 
-use crate::record::{Record, RecordRow, record_for};
+use crate::record::{Record, RecordRow};
 use agent::process::{Outcome, Processed};
 use codec::layouts::Span;
 use moves::proxy::BridgeCall;
 
 // The bytes replied, and the bridge call, if there is one.
-#[derive(Clone, Copy)]
+#[derive(Clone, Copy, Debug, Default, PartialEq, Eq)]
 pub(crate) struct Told {
     pub wrote: u64,
     pub call: u64,
@@ -29,10 +29,7 @@ fn told_handles(wrote: u64, call: u64, handle: u64, topic: u64) -> Told
         call,
         handle,
         topic,
-        start: 0,
-        len: 0,
-        type_start: 0,
-        type_len: 0,
+        ..Told::default()
     }
 }
 
@@ -40,14 +37,9 @@ fn told_part(wrote: u64, call: u64, handle: u64, part: Span) -> Told
     ensures { result ≡ told wrote call handle 0 part.start part.len 0 0 }
 {
     Told {
-        wrote,
-        call,
-        handle,
-        topic: 0,
         start: part.start as u64,
         len: part.len as u64,
-        type_start: 0,
-        type_len: 0,
+        ..told_handles(wrote, call, handle, 0)
     }
 }
 
@@ -55,14 +47,9 @@ fn told_parts(wrote: u64, call: u64, handle: u64, part: Span, second: Span) -> T
     ensures { result ≡ told wrote call handle 0 part.start part.len second.start second.len }
 {
     Told {
-        wrote,
-        call,
-        handle,
-        topic: 0,
-        start: part.start as u64,
-        len: part.len as u64,
         type_start: second.start as u64,
         type_len: second.len as u64,
+        ..told_part(wrote, call, handle, part)
     }
 }
 
@@ -80,19 +67,20 @@ fn call_told(call: BridgeCall, n: u64) -> Told
     }
 }
 
+#[tactic(auto, unfolding(crate::specs::Record::nothing_told))]
 pub(crate) fn nothing_told(n: u64) -> Told
     ensures { result ≡ nothing_told n }
 {
     told_handles(n, 0, 0, 0)
 }
 
-pub(crate) fn told_of(o: Outcome) -> Told
-    ensures { result ≡ told_of o }
+#[tactic(auto, unfolding(crate::specs::Record::told_of))]
+fn told_of(o: Outcome) -> Told
+    ensures { result ≡ told_of (Ok o) }
 {
     match o {
         Outcome::Replied(n) => nothing_told(n as u64),
         Outcome::Called(call, n) => call_told(call, n as u64),
-        Outcome::Refused(_) => nothing_told(0),
     }
 }
 
@@ -100,42 +88,31 @@ pub(crate) fn told_of(o: Outcome) -> Told
 pub(crate) fn keep_record(rows: &mut [RecordRow], r: Record, t: Told)
     ensures { rows.new ≡ kept_in rows.old r t }
 {
-    let row = [
-        r.max_clients,
-        r.timeout_ms,
-        r.next,
-        r.task,
-        r.kind,
-        r.parent,
-        r.session,
-        r.stream,
-        r.number,
-        r.at,
-        r.time,
-        r.is_open,
-        r.left_at,
-        r.left_end,
-        t.wrote,
-        t.call,
-        t.handle,
-        t.topic,
-        t.start,
-        t.len,
-        t.type_start,
-        t.type_len,
-    ];
-    if 0 < rows.len() {
-        rows[0] = row;
-    }
-}
-
-fn is_refused(o: Outcome) -> bool
-    ensures { result ≡ is_refused o }
-{
-    match o {
-        Outcome::Replied(_) => false,
-        Outcome::Called(_, _) => false,
-        Outcome::Refused(_) => true,
+    if let Some(first) = rows.first_mut() {
+        *first = [
+            r.max_clients,
+            r.timeout_ms,
+            r.next,
+            r.task,
+            r.kind,
+            r.parent,
+            r.session,
+            r.stream,
+            r.number,
+            r.at,
+            r.time,
+            r.is_open,
+            r.left_at,
+            r.left_end,
+            t.wrote,
+            t.call,
+            t.handle,
+            t.topic,
+            t.start,
+            t.len,
+            t.type_start,
+            t.type_len,
+        ];
     }
 }
 
@@ -143,12 +120,7 @@ fn is_refused(o: Outcome) -> bool
 pub(crate) fn keep_processed(rows: &mut [RecordRow], p: Processed)
     ensures { rows.new ≡ records_after rows.old p }
 {
-    let agent = p.agent;
-    let outcome = p.outcome;
-    if is_refused(outcome) {
-        return;
+    if let Ok(outcome) = p.outcome {
+        keep_record(rows, p.agent.into(), told_of(outcome));
     }
-    let r = record_for(agent);
-    let t = told_of(outcome);
-    keep_record(rows, r, t);
 }

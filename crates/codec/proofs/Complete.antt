@@ -14,22 +14,21 @@ use Rattle.codec.specs.Reading.{Item, items, read_at, items_at, payload_at, part
 use Rattle.codec.specs.Writing.{fixed_bytes}
 use Rattle.codec.specs.Grammar.{Said, Ranged, HeaderRanged, Bodied, Payload, bodied, plain, OneSub, one, Subs, none, next, IsMessage, whole, said_in, says, reading}
 use Rattle.codec.specs.declared.header.MessageHeader.{MessageHeader}
-use Rattle.codec.specs.declared.layouts.Parsed.TheVariants.{Sub}
 use Rattle.codec.specs.declared.layouts.Span.{Span}
 use Rattle.codec.specs.declared.submessages.ObjectKind.{ObjectKind}
 use Rattle.codec.specs.declared.submessages.ObjectKind.TheVariants.{Participant, Topic, Publisher, Subscriber, DataWriter, DataReader}
 use Rattle.codec.specs.declared.submessages.StatusCode.{StatusCode}
-use Rattle.codec.specs.declared.submessages.StatusCode.TheVariants.{Ok, ErrUnknownRef, ErrInvalidData, ErrIncompatible, ErrResources}
-use Rattle.codec.specs.declared.submessages.KindRead.TheVariants.{Kind}
-use Rattle.codec.specs.declared.submessages.CodeRead.TheVariants.{Code}
+use Rattle.codec.specs.declared.submessages.StatusCode.TheVariants as status
+use Rattle.codec.specs.declared.submessages.StatusCode.TheVariants.{ErrUnknownRef, ErrInvalidData, ErrIncompatible, ErrResources}
 use Rattle.codec.specs.declared.submessages.Submessage.{Submessage}
 use Rattle.codec.specs.declared.submessages.Submessage.TheVariants.{CreateClient, Create, Delete, Status, WriteData, ReadData, Data, Heartbeat, Acknack, Fragment}
 use Rattle.codec.proofs.Pieces.{drop_behind, byte_back, word_back, quad_back}
 use Rattle.codec.proofs.reading.Laws.{read_payload, payload_laid, items_end, items_more}
 use Rattle.codec.proofs.writing.Laws.{length_fixed, least_small}
+use Rattle.std.specs.Prelude.{Ok}
 
 -- a kind's and a code's own byte reads back
-kind_back : (k : ObjectKind) → kind_of (kind_byte k) ≡ Kind k
+kind_back : (k : ObjectKind) → kind_of (kind_byte k) ≡ Ok k
 unfolding kind_of
 kind_back Participant = refl
 kind_back Topic = refl
@@ -38,9 +37,9 @@ kind_back Subscriber = refl
 kind_back DataWriter = refl
 kind_back DataReader = refl
 
-code_back : (k : StatusCode) → code_of (code_byte k) ≡ Code k
+code_back : (k : StatusCode) → code_of (code_byte k) ≡ Ok k
 unfolding code_of
-code_back Ok = refl
+code_back status.Ok = refl
 code_back ErrUnknownRef = refl
 code_back ErrInvalidData = refl
 code_back ErrIncompatible = refl
@@ -61,7 +60,7 @@ span_of (Acknack q) p len = record { start = p + len; len = 0 }
 
 -- a layout whose fixed bytes stand at `p` gives back what they were made of
 laid : (m : Submessage) (s : List ℕ) (p len : ℕ) (l : List ℕ) → drop p s ≡ fixed_bytes m ++ l → Ranged m
-    → layout_at s (id_of m) p len ≡ Sub m (span_of m p len) (record { at = p + len })
+    → layout_at s (id_of m) p len ≡ Ok (m, (span_of m p len), (record { at = p + len }))
 unfolding layout_at fixed_bytes Ranged le16 le32 create_at status_at
 laid (CreateClient q) s p len l e h =
     let four = le32 q.client_key in
@@ -145,7 +144,7 @@ module _ (s : List ℕ) (p : ℕ) (l : List ℕ) where
       (ignored ++ l, e ∙ append_assoc (fixed_bytes m) ignored l, omega (arith, length-append (fixed_bytes m) ignored, length_fixed m))
 
   payload_back : (m : Submessage) (body payload : List ℕ) → Payload m body payload → Ranged m → drop p s ≡ payload ++ l → p + length payload ≤ length s
-      → payload_at s (id_of m) p (length payload) ≡ Sub m (span_of m p (length payload)) (record { at = p + length payload })
+      → payload_at s (id_of m) p (length payload) ≡ Ok (m, (span_of m p (length payload)), (record { at = p + length payload }))
   payload_back m body payload k r e h =
       let f = fixed_first m body payload k e in
       let listed : least_of (id_of m) ≡ 255 → ⊥ = λ z. omega (arith, z, least_small m) in
@@ -154,7 +153,7 @@ module _ (s : List ℕ) (p : ℕ) (l : List ℕ) where
 -- a submessage at a place is read whole, and reading goes on behind it
 record Back (s : List ℕ) (at : ℕ) (x : Said) (a : List ℕ) : Type 0 where
   span : Span
-  read : read_at s at ≡ Sub x.fields span (record { at = at + length a })
+  read : read_at s at ≡ Ok (x.fields, span, (record { at = at + length a }))
   part : part_of s span ≡ x.body
   ahead : 4 ≤ length a
   within : at + length a ≤ length s

@@ -15,20 +15,12 @@ use Rattle.codec.specs.Bytes.{word_at, le16, AllBytes}
 use Rattle.codec.specs.Header.{header_of, header_bytes, sub_header_read, sub_header_of}
 use Rattle.codec.specs.Submessages.{id_of, kind_byte, kind_of, code_byte, code_of}
 use Rattle.codec.specs.Layouts.{least_of, layout_at, create_at, create_of, status_at, status_of}
-use Rattle.codec.specs.declared.header.SubmessageHeaderRead.{SubmessageHeaderRead}
-use Rattle.codec.specs.declared.header.SubmessageHeaderRead.TheVariants as sub-header-read
 use Rattle.codec.specs.Reading.{behind, Item, Items, items, stopped, before, onward, read_at, items_at, payload_at, part_of, message_of, under}
 use Rattle.codec.specs.Writing.{fixed_bytes}
 use Rattle.codec.specs.Grammar.{Said, Ranged, HeaderRanged, Bodied, Payload, bodied, plain, OneSub, one, Subs, none, next, IsMessage, whole, said_in, says, reading_of, reading}
 use Rattle.codec.specs.declared.header.MessageHeader.{MessageHeader}
-use Rattle.codec.specs.declared.layouts.Parsed.{Parsed}
-use Rattle.codec.specs.declared.layouts.Parsed.TheVariants.{Sub, Refused}
 use Rattle.codec.specs.declared.layouts.Span.{Span}
 use Rattle.codec.specs.declared.layouts.Cursor.{Cursor}
-use Rattle.codec.specs.declared.submessages.KindRead.{KindRead}
-use Rattle.codec.specs.declared.submessages.KindRead.TheVariants as kind-read
-use Rattle.codec.specs.declared.submessages.CodeRead.{CodeRead}
-use Rattle.codec.specs.declared.submessages.CodeRead.TheVariants as code-read
 use Rattle.codec.specs.declared.submessages.Submessage.{Submessage}
 use Rattle.codec.proofs.Either.{either}
 use Rattle.codec.proofs.submessages.Laws.{KindIs, kind_is, CodeIs, code_is}
@@ -37,6 +29,11 @@ use Rattle.codec.proofs.Pieces.{byte_small, word_small, quad_small, byte_piece, 
 use Rattle.codec.proofs.header.Laws.{sub_header_is}
 use Rattle.codec.proofs.reading.Laws.{payload_placed, items_end, items_more}
 use Rattle.codec.proofs.layouts.Laws.{enough}
+use Rattle.std.specs.Prelude.{Err, Ok, Result}
+use Rattle.codec.specs.declared.submessages.ObjectKind.{ObjectKind}
+use Rattle.codec.specs.declared.refusals.Refusal.{Refusal}
+use Rattle.codec.specs.declared.submessages.StatusCode.{StatusCode}
+use Rattle.codec.specs.declared.header.SubmessageHeader.{SubmessageHeader}
 
 -- ---- two messages that say the same have the same header and the same submessages
 
@@ -54,9 +51,9 @@ record Right (s : List ℕ) (id p len : ℕ) (m : Submessage) (x : Span) : Type 
   fixed : fixed_bytes m ≡ take (least_of id) (drop p s)
   body : (Bodied m × (x ≡ record { start = p + least_of id; len = len - least_of id })) ⊎ ((Bodied m → ⊥) × (x ≡ record { start = p + len; len = 0 }))
 
-abbrev RightIf : List ℕ → ℕ → ℕ → ℕ → Parsed → Type 0
-RightIf s id p len (Sub m x c) = Right s id p len m x
-RightIf s id p len (Refused r) = Unit
+abbrev RightIf : List ℕ → ℕ → ℕ → ℕ → Result (Submessage × Span × Cursor) Refusal → Type 0
+RightIf s id p len (Ok (m, x, c)) = Right s id p len m x
+RightIf s id p len (Err r) = Unit
 
 module _ (s : List ℕ) (small : AllBytes s) (p len : ℕ) (fits : p + len ≤ length s) where
   two_words : 4 ≤ len → le16 (word_at s p) ++ le16 (word_at s (p + 2)) ≡ take 4 (drop p s)
@@ -72,9 +69,9 @@ module _ (s : List ℕ) (small : AllBytes s) (p len : ℕ) (fits : p + len ≤ l
         body = inr ((λ z. z), refl);
       }
 
-  right_create : 5 ≤ len → (k : KindRead) → KindIs (get_or s (p + 2) 0) k → RightIf s 1 p len (create_of s p len k)
+  right_create : 5 ≤ len → (k : Result ObjectKind Refusal) → KindIs (get_or s (p + 2) 0) k → RightIf s 1 p len (create_of s p len k)
   unfolding Ranged fixed_bytes least_of le16
-  right_create h (kind-read.Kind k) e =
+  right_create h (Ok k) e =
       let third : kind_byte k ∷ [] ≡ take 1 (drop (p + 2) s) = rw e (byte_piece s (p + 2) (omega arith)) in
       record {
         own = refl;
@@ -82,18 +79,18 @@ module _ (s : List ℕ) (small : AllBytes s) (p len : ℕ) (fits : p + len ≤ l
         fixed = piece_piece s p 3 2 _ _ (piece_piece s p 2 1 (le16 (word_at s p)) (kind_byte k ∷ []) (word_piece s small p (omega arith)) third) (word_piece s small (p + 3) (omega arith));
         body = inl (tt, refl);
       }
-  right_create h (kind-read.Refused r) e = tt
+  right_create h (Err r) e = tt
 
   right_delete : 2 ≤ len → RightIf s 2 p len (layout_at s 2 p len)
   unfolding layout_at Ranged fixed_bytes least_of
   right_delete h = record { own = refl; ranged = word_small s small p; fixed = word_piece s small p (omega arith); body = inr ((λ z. z), refl) }
 
-  right_status : 3 ≤ len → (k : CodeRead) → CodeIs (get_or s (p + 2) 0) k → RightIf s 5 p len (status_of s p len k)
+  right_status : 3 ≤ len → (k : Result StatusCode Refusal) → CodeIs (get_or s (p + 2) 0) k → RightIf s 5 p len (status_of s p len k)
   unfolding Ranged fixed_bytes least_of
-  right_status h (code-read.Code k) e =
+  right_status h (Ok k) e =
       let third : code_byte k ∷ [] ≡ take 1 (drop (p + 2) s) = rw e (byte_piece s (p + 2) (omega arith)) in
       record { own = refl; ranged = word_small s small p; fixed = piece_piece s p 2 1 _ _ (word_piece s small p (omega arith)) third; body = inr ((λ z. z), refl) }
-  right_status h (code-read.Refused r) e = tt
+  right_status h (Err r) e = tt
 
   right_write : 2 ≤ len → RightIf s 7 p len (layout_at s 7 p len)
   unfolding layout_at Ranged fixed_bytes least_of
@@ -125,7 +122,7 @@ module _ (s : List ℕ) (small : AllBytes s) (p len : ℕ) (fits : p + len ≤ l
   right_layout id h =
       let P = RightIf s id p len in
       let long : (k : ℕ) → eqb id k ≡ true → least_of k ≤ len = λ k e. enough id k len (eqb-true id k e) h in
-      let at : (k : ℕ) (q : Parsed) → eqb id k ≡ true → RightIf s k p len q → P q = λ k q e r. rw (eqb-true id k e) r in
+      let at : (k : ℕ) (q : Result (Submessage × Span × Cursor) Refusal) → eqb id k ≡ true → RightIf s k p len q → P q = λ k q e r. rw (eqb-true id k e) r in
       either P (eqb id 0) _ _ (λ e. at 0 (layout_at s 0 p len) e (right_client (long 0 e))) (λ _.
       either P (eqb id 1) _ _ (λ e. at 1 (layout_at s 1 p len) e (right_create (long 1 e) (kind_of _) (kind_is _))) (λ _.
       either P (eqb id 2) _ _ (λ e. at 2 (layout_at s 2 p len) e (right_delete (long 2 e))) (λ _.
@@ -145,10 +142,10 @@ part_taken s start len h = rw (le-leb (start + len) (length s) h)
 -- ---- a submessage that was read stands in the datagram as the grammar lays it out
 
 module _ (s : List ℕ) (small : AllBytes s) where
-  right_laid : (id p len : ℕ) (m : Submessage) (x : Span) (c : Cursor) → p + len ≤ length s → least_of id ≤ len → layout_at s id p len ≡ Sub m x c → Right s id p len m x
+  right_laid : (id p len : ℕ) (m : Submessage) (x : Span) (c : Cursor) → p + len ≤ length s → least_of id ≤ len → layout_at s id p len ≡ Ok (m, x, c) → Right s id p len m x
   right_laid id p len m x c fits h e = rw e at (right_layout s small p len fits id h)
 
-  right_payload : (id p len : ℕ) (m : Submessage) (x : Span) (c : Cursor) → payload_at s id p len ≡ Sub m x c
+  right_payload : (id p len : ℕ) (m : Submessage) (x : Span) (c : Cursor) → payload_at s id p len ≡ Ok (m, x, c)
       → (Right s id p len m x) × (least_of id ≤ len) × (p + len ≤ length s)
   right_payload id p len m x c e =
       let met = payload_met s id p len (same_number e) in
@@ -192,11 +189,11 @@ module _ (s : List ℕ) (small : AllBytes s) where
     end : c.at ≡ at + (4 + size)
     within : at + (4 + size) ≤ length s
 
-  taken_behind : (at : ℕ) (q : SubmessageHeaderRead) → sub_header_read s at ≡ q → (m : Submessage) (x : Span) (c : Cursor) → behind s at q ≡ Sub m x c → Taken at m x c
+  taken_behind : (at : ℕ) (q : Result SubmessageHeader Refusal) → sub_header_read s at ≡ q → (m : Submessage) (x : Span) (c : Cursor) → behind s at q ≡ Ok (m, x, c) → Taken at m x c
   unfolding sub_header_of
-  taken_behind at (sub-header-read.Header h) e m x c d =
+  taken_behind at (Ok h) e m x c d =
       let k = sub_header_is s at h e in
-      let d' : payload_at s (get_or s at 0) (at + 4) (word_at s (at + 2)) ≡ Sub m x c = rw k.1 at d in
+      let d' : payload_at s (get_or s at 0) (at + 4) (word_at s (at + 2)) ≡ Ok (m, x, c) = rw k.1 at d in
       let r = right_payload (get_or s at 0) (at + 4) (word_at s (at + 2)) m x c d' in
       let ends = payload_placed s (get_or s at 0) (at + 4) (word_at s (at + 2)) m x c d' in
       record {
@@ -205,9 +202,9 @@ module _ (s : List ℕ) (small : AllBytes s) where
         end = omega (arith, ends.1.0);
         within = omega (arith, r.2);
       }
-  taken_behind at (sub-header-read.Refused r) e m x c d = let z : ◌≡◌ {A = ℕ} 0 1 = cc in absurd (omega arith)
+  taken_behind at (Err r) e m x c d = let z : ◌≡◌ {A = ℕ} 0 1 = cc in absurd (omega arith)
 
-  taken : (at : ℕ) (m : Submessage) (x : Span) (c : Cursor) → read_at s at ≡ Sub m x c → Taken at m x c
+  taken : (at : ℕ) (m : Submessage) (x : Span) (c : Cursor) → read_at s at ≡ Ok (m, x, c) → Taken at m x c
   unfolding read_at
   taken at m x c e = taken_behind at (sub_header_read s at) refl m x c e
 
@@ -229,10 +226,10 @@ module _ (s : List ℕ) (small : AllBytes s) where
       let z : xs ≡ [] = cc (items_end s at h) in
       rw (z, drop_of_length-le s h) none
 
-  laid_onward : (at : ℕ) (xs : List Item) (q : Parsed) → read_at s at ≡ q → ((n : ℕ) (ys : List Item) → at < n → items_at s n ≡ items ys → Laid n ys)
+  laid_onward : (at : ℕ) (xs : List Item) (q : Result (Submessage × Span × Cursor) Refusal) → read_at s at ≡ q → ((n : ℕ) (ys : List Item) → at < n → items_at s n ≡ items ys → Laid n ys)
       → (i : Items) → onward q (items_at s) ≡ i → i ≡ items xs → Laid at xs
-  laid_onward at xs (Refused r) e go i d f = let z : ◌≡◌ {A = ℕ} 0 1 = cc in absurd (omega arith)
-  laid_onward at xs (Sub m x c) e go i d f = after (items_at s c.at) refl (d ∙ f)
+  laid_onward at xs (Err r) e go i d f = let z : ◌≡◌ {A = ℕ} 0 1 = cc in absurd (omega arith)
+  laid_onward at xs (Ok (m, x, c)) e go i d f = after (items_at s c.at) refl (d ∙ f)
     where
       after : (j : Items) → items_at s c.at ≡ j → before (record { says = m; span = x }) (items_at s c.at) ≡ items xs → Laid at xs
       after (items ys) p k =

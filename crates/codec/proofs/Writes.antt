@@ -17,23 +17,23 @@ use Rattle.codec.specs.Writing.{payload_bytes, sub_bytes, message_bytes}
 use Rattle.codec.specs.Grammar.{Said, HeaderRanged, reading, says}
 use Rattle.codec.specs.Promises.{subs_bytes, written, Writable, kept}
 use Rattle.codec.specs.Writes.{Wrote, goes, stops, called, writes_subs, writes, Short, Leaves, whole, no_room, too_long, too_short, CallsLeave, NoneRefused, AllRanged, CallsReadBack, MessageWritten, AnswersExactly}
-use Rattle.codec.specs.declared.bytes.Written.TheVariants.{Bytes, Refused}
 use Rattle.codec.specs.declared.header.MessageHeader.{MessageHeader}
 use Rattle.codec.specs.declared.refusals.Refusal.TheVariants.{TooLong, OutputTooShort}
 use Rattle.codec.proofs.bytes.Laws.{put_short, put_fits, put_behind, length_put, write_over, write_short, write_fits}
 use Rattle.codec.proofs.Promises.{reads_back}
+use Rattle.std.specs.Prelude.{Err, Ok}
 
 -- ---- one call
 
 module _ (n : ℕ) (out : List ℕ) (at : ℕ) (bytes : List ℕ) where
   only_long : (t u : Bool) → ltb 65535 n ≡ t
-      → written_answer (cond t (Refused TooLong) (cond u (Refused OutputTooShort) (Bytes (length bytes)))) ≡ refused_as 12 0 → 65535 < n
+      → written_answer (cond t (Err TooLong) (cond u (Err OutputTooShort) (Ok (length bytes)))) ≡ refused_as 12 0 → 65535 < n
   only_long true u t e = ltb-true 65535 n t
   only_long false true t e = let z : ◌≡◌ {A = ℕ} 13 12 = cc in absurd (omega arith)
   only_long false false t e = let z : ◌≡◌ {A = ℕ} 0 1 = cc in absurd (omega arith)
 
   only_short : (t u : Bool) → ltb 65535 n ≡ t → ltb (length out) (at + length bytes) ≡ u
-      → written_answer (cond t (Refused TooLong) (cond u (Refused OutputTooShort) (Bytes (length bytes)))) ≡ refused_as 13 0
+      → written_answer (cond t (Err TooLong) (cond u (Err OutputTooShort) (Ok (length bytes)))) ≡ refused_as 13 0
       → (n ≤ 65535) × (length out < at + length bytes)
   only_short false true t u e = (ltb-false 65535 n t, ltb-true (length out) (at + length bytes) u)
   only_short true u' t u e = let z : ◌≡◌ {A = ℕ} 12 13 = cc in absurd (omega arith)

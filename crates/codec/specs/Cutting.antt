@@ -1,23 +1,19 @@
 -- Document 01, "The wire": what a fragment is, and how a payload is cut into fragments.
-use Rattle.std.specs.Prelude.{ℕ, zero, suc, ◌<◌, ◌≤◌, ◌≡◌, cond, List, [], ◌∷◌, ◌++◌, eqb, ltb, get_or, length, take, drop}
+use Rattle.std.specs.Prelude.{ℕ, zero, suc, ◌<◌, ◌≤◌, ◌≡◌, cond, List, [], ◌∷◌, ◌++◌, eqb, ltb, get_or, length, take, drop, Err, Ok, Result}
 use Rattle.codec.specs.Bytes.{word_at, le16, put_of, put_bytes}
-use Rattle.codec.specs.declared.bytes.Written.{Written}
-use Rattle.codec.specs.declared.bytes.Written.TheVariants as written
-use Rattle.codec.specs.declared.cutting.FragmentHeaderRead.{FragmentHeaderRead}
-use Rattle.codec.specs.declared.cutting.FragmentHeaderRead.TheVariants as read
-use Rattle.codec.specs.declared.cutting.FragmentCount.{FragmentCount}
-use Rattle.codec.specs.declared.cutting.FragmentCount.TheVariants as count
 use Rattle.codec.specs.declared.refusals.Refusal.TheVariants.{BufferTooShort, FragmentSizeZero, EmptyPayload, TooManyFragments, FragmentNumber}
+use Rattle.codec.specs.declared.cutting.FragmentHeader.{FragmentHeader}
+use Rattle.codec.specs.declared.refusals.Refusal.{Refusal}
 
 -- "A fragment is number (2), total (2), body."
 unfoldable pub fragment_bytes : ℕ → ℕ → List ℕ → List ℕ
 fragment_bytes nr total body = le16 nr ++ (le16 total ++ body)
 
 -- the number and the total that a fragment begins with; 1, "bytes missing"
-unfoldable pub fragment_header_of : List ℕ → FragmentHeaderRead
+unfoldable pub fragment_header_of : List ℕ → Result FragmentHeader Refusal
 fragment_header_of buf =
-    cond (ltb (length buf) 4) (read.Refused BufferTooShort)
-    (read.Header (record { fragment_nr = word_at buf 0; total_fragments = word_at buf 2 }))
+    cond (ltb (length buf) 4) (Err BufferTooShort)
+    (Ok (record { fragment_nr = word_at buf 0; total_fragments = word_at buf 2 }))
 
 -- a payload is cut from its start into bodies of `size` bytes, the last with what is left; no more than `turns` of them
 unfoldable pub cut_off : ℕ → ℕ → List ℕ → List (List ℕ)
@@ -39,24 +35,24 @@ unfoldable pub cut : ℕ → List ℕ → List (List ℕ)
 cut size payload = numbered 0 (length (bodies size payload)) (bodies size payload)
 
 -- "cutting goes 7, 8, 9": "fragment size 0", "payload to cut is empty", "over 65,535 fragments"
-unfoldable pub count_of : List ℕ → ℕ → FragmentCount
+unfoldable pub count_of : List ℕ → ℕ → Result ℕ Refusal
 count_of payload size =
-    cond (eqb size 0) (count.Refused FragmentSizeZero)
-    (cond (eqb (length payload) 0) (count.Refused EmptyPayload)
-    (cond (ltb 65535 (length (cut size payload))) (count.Refused TooManyFragments)
-    (count.Fragments (length (cut size payload)))))
+    cond (eqb size 0) (Err FragmentSizeZero)
+    (cond (eqb (length payload) 0) (Err EmptyPayload)
+    (cond (ltb 65535 (length (cut size payload))) (Err TooManyFragments)
+    (Ok (length (cut size payload)))))
 
 -- then 10, "fragment number not below total"; a refusal leaves the output as it is
-abbrev pub answered : FragmentCount → ℕ → Written → Written
-answered (count.Refused why) k answer = written.Refused why
-answered (count.Fragments total) k answer = cond (ltb k total) answer (written.Refused FragmentNumber)
+abbrev pub answered : Result ℕ Refusal → ℕ → Result ℕ Refusal → Result ℕ Refusal
+answered (Err why) k answer = Err why
+answered (Ok total) k answer = cond (ltb k total) answer (Err FragmentNumber)
 
-abbrev pub changed : FragmentCount → ℕ → List ℕ → List ℕ → List ℕ
-changed (count.Refused why) k out after = out
-changed (count.Fragments total) k out after = cond (ltb k total) after out
+abbrev pub changed : Result ℕ Refusal → ℕ → List ℕ → List ℕ → List ℕ
+changed (Err why) k out after = out
+changed (Ok total) k out after = cond (ltb k total) after out
 
 -- then 13: the k-th fragment of the cut at the start of the output
-unfoldable pub fragment_of : List ℕ → ℕ → ℕ → List ℕ → Written
+unfoldable pub fragment_of : List ℕ → ℕ → ℕ → List ℕ → Result ℕ Refusal
 fragment_of payload size k out = answered (count_of payload size) k (put_of out 0 (get_or (cut size payload) k []))
 
 unfoldable pub fragment_out : List ℕ → ℕ → ℕ → List ℕ → List ℕ

@@ -1,13 +1,12 @@
 -- Fragments put into a store in any order and any number of times: what the store holds, and what is promised of it.
 -- The definitions of a call are those that the contracts of `new`, `insert` and `assemble` cite.
-use Rattle.std.specs.Prelude.{ℕ, zero, suc, ◌*◌, ◌-◌, ◌<◌, ◌≤◌, ◌≡◌, Bool, true, false, cond, not, ◌||◌, ◌&&◌, List, [], ◌∷◌, ◌++◌, eqb, ltb, get_or, length, take, drop}
+use Rattle.std.specs.Prelude.{ℕ, zero, suc, ◌*◌, ◌-◌, ◌<◌, ◌≤◌, ◌≡◌, Bool, true, false, cond, not, ◌||◌, ◌&&◌, List, [], ◌∷◌, ◌++◌, eqb, ltb, get_or, length, take, drop, Err, Ok, Result}
 use Rattle.codec.specs.Answers.{gives, refused_as, written_answer, made_answer, inserted_answer}
 use Rattle.codec.specs.Bytes.{put_of, put_bytes}
 use Rattle.codec.specs.Cutting.{bodies}
 use Rattle.codec.specs.Reassembly.{is_free, is_past, any_of, new_of, new_lengths, insert_of, insert_slots, insert_lengths, has_fragment, payload_of, assemble_of, assemble_out}
 use Rattle.codec.specs.declared.reassembly.ReassemblyBuffer.{ReassemblyBuffer}
-use Rattle.codec.specs.declared.reassembly.Inserted.{Inserted}
-use Rattle.codec.specs.declared.reassembly.Inserted.TheVariants as inserted
+use Rattle.codec.specs.declared.refusals.Refusal.{Refusal}
 
 -- a store as the host keeps it between calls
 pub record Store : Type 0 where
@@ -21,9 +20,9 @@ pub record Piece : Type 0 where
   pub body : List ℕ
 
 -- one call of `insert`: a refusal leaves the buffer as it was
-abbrev pub buffer_after : ReassemblyBuffer → Inserted → ReassemblyBuffer
-buffer_after before (inserted.Held after all) = after
-buffer_after before (inserted.Refused why) = before
+abbrev pub buffer_after : ReassemblyBuffer → Result (ReassemblyBuffer × Bool) Refusal → ReassemblyBuffer
+buffer_after before (Ok (after, all)) = after
+buffer_after before (Err why) = before
 
 unfoldable pub insert_into : Store → Piece → Store
 insert_into st p = record {

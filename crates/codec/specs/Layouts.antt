@@ -1,16 +1,15 @@
 -- Document 01, "The wire": the table of payload layouts, as what the bytes at a place of a datagram say.
-use Rattle.std.specs.Prelude.{ℕ, ◌+◌, ◌-◌, cond, List, [], ◌∷◌, eqb, get_or}
+use Rattle.std.specs.Prelude.{ℕ, ◌+◌, ◌-◌, cond, List, [], ◌∷◌, eqb, get_or, Err, Ok, Result}
 use Rattle.codec.specs.Bytes.{word_at, quad_at}
 use Rattle.codec.specs.Submessages.{kind_of, code_of}
-use Rattle.codec.specs.declared.layouts.Parsed.{Parsed}
-use Rattle.codec.specs.declared.layouts.Parsed.TheVariants.{Sub, Refused}
 use Rattle.codec.specs.declared.refusals.Refusal.TheVariants.{UnknownSubmessageId}
-use Rattle.codec.specs.declared.submessages.KindRead.{KindRead}
-use Rattle.codec.specs.declared.submessages.KindRead.TheVariants as kind-read
-use Rattle.codec.specs.declared.submessages.CodeRead.{CodeRead}
-use Rattle.codec.specs.declared.submessages.CodeRead.TheVariants as code-read
 use Rattle.codec.specs.declared.submessages.Submessage.{Submessage}
 use Rattle.codec.specs.declared.submessages.Submessage.TheVariants.{CreateClient, Create, Delete, Status, WriteData, ReadData, Data, Heartbeat, Acknack, Fragment}
+use Rattle.codec.specs.declared.layouts.Cursor.{Cursor}
+use Rattle.codec.specs.declared.submessages.ObjectKind.{ObjectKind}
+use Rattle.codec.specs.declared.refusals.Refusal.{Refusal}
+use Rattle.codec.specs.declared.layouts.Span.{Span}
+use Rattle.codec.specs.declared.submessages.StatusCode.{StatusCode}
 
 -- "least payload lengths stand in one fixed list by id": the column "least", then FRAGMENT's 4 (document 02, W6),
 -- with 255 as the mark for unlisted ids
@@ -21,24 +20,24 @@ unfoldable pub least_of : ℕ → ℕ
 least_of id = get_or least_table id 255
 
 -- "Payload bytes beyond a fixed layout are ignored": no variable part; the next submessage begins behind the payload
-abbrev pub plain_at : Submessage → ℕ → ℕ → Parsed
-plain_at m p len = Sub m (record { start = p + len; len = 0 }) (record { at = p + len })
+abbrev pub plain_at : Submessage → ℕ → ℕ → Result (Submessage × Span × Cursor) Refusal
+plain_at m p len = Ok (m, (record { start = p + len; len = 0 }), (record { at = p + len }))
 
 -- strings and data are all that follows the fixed bytes of a layout
-abbrev pub bodied_at : Submessage → ℕ → ℕ → ℕ → Parsed
-bodied_at m fixed p len = Sub m (record { start = p + fixed; len = len - fixed }) (record { at = p + len })
+abbrev pub bodied_at : Submessage → ℕ → ℕ → ℕ → Result (Submessage × Span × Cursor) Refusal
+bodied_at m fixed p len = Ok (m, (record { start = p + fixed; len = len - fixed }), (record { at = p + len }))
 
 -- 0x00 CREATE_CLIENT: key 4, properties 1
 abbrev pub create_client_at : List ℕ → ℕ → Submessage
 create_client_at s p = CreateClient (record { client_key = quad_at s p; properties = get_or s (p + 4) 0 })
 
 -- 0x01 CREATE: object 2, kind 1, parent 2, strings
-abbrev pub create_of : List ℕ → ℕ → ℕ → KindRead → Parsed
-create_of s p len (kind-read.Kind k) =
+abbrev pub create_of : List ℕ → ℕ → ℕ → Result ObjectKind Refusal → Result (Submessage × Span × Cursor) Refusal
+create_of s p len (Ok k) =
     bodied_at (Create (record { object_id = record { 0 = word_at s p }; kind = k; parent_id = word_at s (p + 3) })) 5 p len
-create_of s p len (kind-read.Refused r) = Refused r
+create_of s p len (Err r) = Err r
 
-unfoldable pub create_at : List ℕ → ℕ → ℕ → Parsed
+unfoldable pub create_at : List ℕ → ℕ → ℕ → Result (Submessage × Span × Cursor) Refusal
 create_at s p len = create_of s p len (kind_of (get_or s (p + 2) 0))
 
 -- 0x02 DELETE: object 2
@@ -46,11 +45,11 @@ abbrev pub delete_at : List ℕ → ℕ → Submessage
 delete_at s p = Delete (record { object_id = record { 0 = word_at s p } })
 
 -- 0x05 STATUS: object 2, code 1
-abbrev pub status_of : List ℕ → ℕ → ℕ → CodeRead → Parsed
-status_of s p len (code-read.Code k) = plain_at (Status (record { related_object_id = record { 0 = word_at s p }; status = k })) p len
-status_of s p len (code-read.Refused r) = Refused r
+abbrev pub status_of : List ℕ → ℕ → ℕ → Result StatusCode Refusal → Result (Submessage × Span × Cursor) Refusal
+status_of s p len (Ok k) = plain_at (Status (record { related_object_id = record { 0 = word_at s p }; status = k })) p len
+status_of s p len (Err r) = Err r
 
-unfoldable pub status_at : List ℕ → ℕ → ℕ → Parsed
+unfoldable pub status_at : List ℕ → ℕ → ℕ → Result (Submessage × Span × Cursor) Refusal
 status_at s p len = status_of s p len (code_of (get_or s (p + 2) 0))
 
 -- 0x07 WRITE_DATA: writer 2, data
@@ -78,7 +77,7 @@ abbrev pub fragment_at : List ℕ → ℕ → Submessage
 fragment_at s p = Fragment (record { fragment_nr = word_at s p; total_fragments = word_at s (p + 2) })
 
 -- "The submessage id alone decides which layout is read"
-unfoldable pub layout_at : List ℕ → ℕ → ℕ → ℕ → Parsed
+unfoldable pub layout_at : List ℕ → ℕ → ℕ → ℕ → Result (Submessage × Span × Cursor) Refusal
 layout_at s id p len =
     cond (eqb id 0x00) (plain_at (create_client_at s p) p len)
     (cond (eqb id 0x01) (create_at s p len)
@@ -90,4 +89,4 @@ layout_at s id p len =
     (cond (eqb id 0x0D) (plain_at (heartbeat_at s p) p len)
     (cond (eqb id 0x0E) (plain_at (acknack_at s p) p len)
     (cond (eqb id 0x0F) (bodied_at (fragment_at s p) 4 p len)
-    (Refused (UnknownSubmessageId id)))))))))))
+    (Err (UnknownSubmessageId id)))))))))))

@@ -1,17 +1,10 @@
 -- Document 01, "Reassembly: lent slots of one width, with lengths." What each call on a fragment store gives and leaves.
-use Rattle.std.specs.Prelude.{ℕ, ◌+◌, ◌*◌, ◌-◌, Bool, false, cond, not, ◌||◌, ◌&&◌, List, [], ◌∷◌, ◌++◌, eqb, ltb, get_or, length, take, drop, set, replicate}
+use Rattle.std.specs.Prelude.{ℕ, ◌+◌, ◌*◌, ◌-◌, Bool, false, cond, not, ◌||◌, ◌&&◌, List, [], ◌∷◌, ◌++◌, eqb, ltb, get_or, length, take, drop, set, replicate, Err, Ok, Result}
 use Rattle.codec.specs.Bytes.{put_at, put_of, put_bytes}
 use Rattle.codec.specs.Cutting.{joined}
-use Rattle.codec.specs.declared.bytes.Written.{Written}
-use Rattle.codec.specs.declared.bytes.Written.TheVariants as written
 use Rattle.codec.specs.declared.reassembly.ReassemblyBuffer.{ReassemblyBuffer}
-use Rattle.codec.specs.declared.reassembly.StoreMade.{StoreMade}
-use Rattle.codec.specs.declared.reassembly.StoreMade.TheVariants as made
-use Rattle.codec.specs.declared.reassembly.Inserted.{Inserted}
-use Rattle.codec.specs.declared.reassembly.Inserted.TheVariants as inserted
-use Rattle.codec.specs.declared.reassembly.Check.{Check}
-use Rattle.codec.specs.declared.reassembly.Check.TheVariants as check
 use Rattle.codec.specs.declared.refusals.Refusal.TheVariants.{FragmentNumber, MissingFragments, StoreFull, OverLimit}
+use Rattle.codec.specs.declared.refusals.Refusal.{Refusal}
 
 -- 16, "lent store under its documented need": `total` slots of `width` bytes, and an entry for each. An entry is 0 for a free slot,
 -- and 1 more than its body's length for one that holds a body.
@@ -26,10 +19,10 @@ abbrev pub is_past : ℕ → ℕ → Bool
 is_past width held = ltb (width + 1) held
 
 -- a new store is empty: each of its slots is free
-unfoldable pub new_of : ℕ → ℕ → List ℕ → List ℕ → StoreMade
+unfoldable pub new_of : ℕ → ℕ → List ℕ → List ℕ → Result ReassemblyBuffer Refusal
 new_of total width slots lengths =
-    cond (under_need total width (length slots) (length lengths)) (made.Refused OverLimit)
-    (made.Store (record { total_fragments = total; received_count = 0; width = width }))
+    cond (under_need total width (length slots) (length lengths)) (Err OverLimit)
+    (Ok (record { total_fragments = total; received_count = 0; width = width }))
 
 unfoldable pub new_lengths : ℕ → ℕ → List ℕ → List ℕ → List ℕ
 new_lengths total width slots lengths =
@@ -53,36 +46,35 @@ slot_over b held = is_past b.width held || ltb b.total_fragments (grown b.receiv
 
 -- 16, then "a store checks 10 before 14": "fragment number not below total", "body over its slot". A number not below the total has no
 -- slot whose entry 16 could look at.
-unfoldable pub insert_check : ReassemblyBuffer → ℕ → ℕ → ℕ → ℕ → ℕ → Check
+unfoldable pub insert_check : ReassemblyBuffer → ℕ → ℕ → ℕ → ℕ → ℕ → Result (Unit {0}) Refusal
 insert_check b slots lengths held nr len =
-    cond (store_over b slots lengths) (check.Refused OverLimit)
+    cond (store_over b slots lengths) (Err OverLimit)
     (cond (ltb nr b.total_fragments)
-    (cond (slot_over b held) (check.Refused OverLimit)
-    (cond (ltb b.width len) (check.Refused StoreFull) check.Passes))
-    (check.Refused FragmentNumber))
+    (cond (slot_over b held) (Err OverLimit)
+    (cond (ltb b.width len) (Err StoreFull) (Ok tt)))
+    (Err FragmentNumber))
 
 -- what a call answers, and what it leaves, where its check passes and where it doesn't
-abbrev pub inserted_if : Check → Inserted → Inserted
-inserted_if (check.Refused why) answer = inserted.Refused why
-inserted_if check.Passes answer = answer
+abbrev pub inserted_if : Result (Unit {0}) Refusal → Result (ReassemblyBuffer × Bool) Refusal → Result (ReassemblyBuffer × Bool) Refusal
+inserted_if (Err why) answer = Err why
+inserted_if (Ok tt) answer = answer
 
-abbrev pub written_if : Check → Written → Written
-written_if (check.Refused why) answer = written.Refused why
-written_if check.Passes answer = answer
+abbrev pub written_if : Result (Unit {0}) Refusal → Result ℕ Refusal → Result ℕ Refusal
+written_if (Err why) answer = Err why
+written_if (Ok tt) answer = answer
 
-abbrev pub changed_if : Check → List ℕ → List ℕ → List ℕ
-changed_if (check.Refused why) before after = before
-changed_if check.Passes before after = after
+abbrev pub changed_if : Result (Unit {0}) Refusal → List ℕ → List ℕ → List ℕ
+changed_if (Err why) before after = before
+changed_if (Ok tt) before after = after
 
 -- "A repeated fragment replaces the body held." The answer says whether every fragment is there.
-unfoldable pub insert_check_of : ReassemblyBuffer → List ℕ → List ℕ → ℕ → List ℕ → Check
+unfoldable pub insert_check_of : ReassemblyBuffer → List ℕ → List ℕ → ℕ → List ℕ → Result (Unit {0}) Refusal
 insert_check_of b slots lengths nr body = insert_check b (length slots) (length lengths) (get_or lengths nr 0) nr (length body)
 
-unfoldable pub insert_of : ReassemblyBuffer → List ℕ → List ℕ → ℕ → List ℕ → Inserted
+unfoldable pub insert_of : ReassemblyBuffer → List ℕ → List ℕ → ℕ → List ℕ → Result (ReassemblyBuffer × Bool) Refusal
 insert_of b slots lengths nr body =
     inserted_if (insert_check_of b slots lengths nr body)
-    (inserted.Held (recounted b (get_or lengths nr 0))
-    (eqb (grown b.received_count (get_or lengths nr 0)) b.total_fragments))
+    (Ok ((recounted b (get_or lengths nr 0)), (eqb (grown b.received_count (get_or lengths nr 0)) b.total_fragments)))
 
 unfoldable pub insert_slots : ReassemblyBuffer → List ℕ → List ℕ → ℕ → List ℕ → List ℕ
 insert_slots b slots lengths nr body = changed_if (insert_check_of b slots lengths nr body) slots (put_at slots (nr * b.width) body)
@@ -113,17 +105,17 @@ unfoldable pub over_limit : ReassemblyBuffer → ℕ → List ℕ → Bool
 over_limit b slots lengths = store_over b slots (length lengths) || any_of (is_past b.width) (take b.total_fragments lengths)
 
 -- 16, then 11, "fragments missing"
-unfoldable pub assemble_check : ReassemblyBuffer → ℕ → List ℕ → Check
+unfoldable pub assemble_check : ReassemblyBuffer → ℕ → List ℕ → Result (Unit {0}) Refusal
 assemble_check b slots lengths =
-    cond (over_limit b slots lengths) (check.Refused OverLimit)
-    (cond (ltb b.received_count b.total_fragments || any_of is_free (take b.total_fragments lengths)) (check.Refused MissingFragments)
-    check.Passes)
+    cond (over_limit b slots lengths) (Err OverLimit)
+    (cond (ltb b.received_count b.total_fragments || any_of is_free (take b.total_fragments lengths)) (Err MissingFragments)
+    (Ok tt))
 
 -- then 13: the bodies one behind the other at the start of the output
 unfoldable pub payload_of : ReassemblyBuffer → List ℕ → List ℕ → List ℕ
 payload_of b slots lengths = joined (bodies_held b.width slots (take b.total_fragments lengths))
 
-unfoldable pub assemble_of : ReassemblyBuffer → List ℕ → List ℕ → List ℕ → Written
+unfoldable pub assemble_of : ReassemblyBuffer → List ℕ → List ℕ → List ℕ → Result ℕ Refusal
 assemble_of b slots lengths out = written_if (assemble_check b (length slots) lengths) (put_of out 0 (payload_of b slots lengths))
 
 unfoldable pub assemble_out : ReassemblyBuffer → List ℕ → List ℕ → List ℕ → List ℕ

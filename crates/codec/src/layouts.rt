@@ -7,29 +7,22 @@ ghost use Rattle.codec.specs.Layouts.{create_client_at, delete_at, write_data_at
 use crate::bytes::word_at;
 use crate::refusals::Refusal;
 use crate::submessages::{
-    AcknackPayload, CodeRead, CreateClientPayload, CreatePayload, DataPayload, DeletePayload,
-    FragmentPayload, HeartbeatPayload, KindRead, ObjectKind, ObjectNumber, ReadDataPayload,
-    StatusCode, StatusPayload, Submessage, WriteDataPayload,
+    AcknackPayload, CreateClientPayload, CreatePayload, DataPayload, DeletePayload,
+    FragmentPayload, HeartbeatPayload, ObjectKind, ObjectNumber, ReadDataPayload, StatusCode,
+    StatusPayload, Submessage, WriteDataPayload,
 };
 
 // A part of a datagram: `len` bytes from `start` on.
-#[derive(Clone, Copy)]
+#[derive(Clone, Copy, Debug, PartialEq, Eq)]
 pub struct Span {
     pub start: usize,
     pub len: usize,
 }
 
 // The place in a datagram at which the next submessage begins.
-#[derive(Clone, Copy)]
+#[derive(Clone, Copy, Debug, PartialEq, Eq)]
 pub struct Cursor {
     pub at: usize,
-}
-
-// One submessage with its variable part and the place behind it, or why there is none.
-#[derive(Clone, Copy)]
-pub enum Parsed {
-    Sub(Submessage, Span, Cursor),
-    Refused(Refusal),
 }
 
 // Stands in LEAST for an id that is not listed.
@@ -39,6 +32,7 @@ pub const UNLISTED: u8 = 255;
 const LEAST: [u8; 16] = [5, 5, 2, 255, 255, 3, 255, 2, 4, 2, 255, 255, 255, 4, 4, 4];
 
 // The least payload length of an id, or the mark UNLISTED.
+#[tactic(auto, unfolding(crate::specs::Layouts::least_of))]
 pub fn least_len(id: u8) -> u8
     ensures { result ≡ least_of id }
 {
@@ -50,61 +44,64 @@ pub fn least_len(id: u8) -> u8
 }
 
 // A layout with no variable part: bytes beyond it are ignored.
-fn plain_at(m: Submessage, p: usize, len: usize) -> Parsed
+fn plain_at(m: Submessage, p: usize, len: usize) -> Result<(Submessage, Span, Cursor), Refusal>
     requires { p + len < 2 ^ 64 }
     ensures { result ≡ plain_at m p len }
 {
-    Parsed::Sub(
+    Ok((
         m,
         Span {
             start: p + len,
             len: 0,
         },
         Cursor { at: p + len },
-    )
+    ))
 }
 
 // A layout whose variable part is all that follows its `fixed` bytes.
-fn bodied_at(m: Submessage, fixed: usize, p: usize, len: usize) -> Parsed
+fn bodied_at(
+    m: Submessage,
+    fixed: usize,
+    p: usize,
+    len: usize,
+) -> Result<(Submessage, Span, Cursor), Refusal>
     requires { (p + len < 2 ^ 64) × (fixed ≤ len) }
     ensures { result ≡ bodied_at m fixed p len }
 {
-    Parsed::Sub(
+    Ok((
         m,
         Span {
             start: p + fixed,
             len: len - fixed,
         },
         Cursor { at: p + len },
-    )
+    ))
 }
 
+#[tactic(auto, unfolding(crate::specs::Bytes::word_at, crate::specs::Bytes::quad_at))]
 fn create_client_at(s: &[u8], p: usize) -> Submessage
     requires { p + 5 ≤ length s.now }
     ensures { result ≡ create_client_at s.now p }
 {
     Submessage::CreateClient(CreateClientPayload {
-        client_key: (word_at(s, p) as u32) + 65536 * (word_at(s, p + 2) as u32),
+        client_key: u32::from_le_bytes([s[p], s[p + 1], s[p + 2], s[p + 3]]),
         properties: s[p + 4],
     })
 }
 
 // CREATE: 3 where the kind's byte is none of the six.
-fn create_at(s: &[u8], p: usize, len: usize) -> Parsed
+#[tactic(auto, unfolding(crate::specs::Layouts::create_at))]
+fn create_at(s: &[u8], p: usize, len: usize) -> Result<(Submessage, Span, Cursor), Refusal>
     requires { (p + len ≤ length s.now) × (5 ≤ len) }
     ensures { result ≡ create_at s.now p len }
 {
-    match ObjectKind::from_u8(s[p + 2]) {
-        KindRead::Kind(kind) => {
-            let m = Submessage::Create(CreatePayload {
-                object_id: ObjectNumber(word_at(s, p)),
-                kind,
-                parent_id: word_at(s, p + 3),
-            });
-            bodied_at(m, 5, p, len)
-        }
-        KindRead::Refused(r) => Parsed::Refused(r),
-    }
+    let kind = ObjectKind::try_from(s[p + 2])?;
+    let m = Submessage::Create(CreatePayload {
+        object_id: ObjectNumber(word_at(s, p)),
+        kind,
+        parent_id: word_at(s, p + 3),
+    });
+    bodied_at(m, 5, p, len)
 }
 
 fn delete_at(s: &[u8], p: usize) -> Submessage
@@ -117,20 +114,17 @@ fn delete_at(s: &[u8], p: usize) -> Submessage
 }
 
 // STATUS: 4 where the code's byte is none of the five.
-fn status_at(s: &[u8], p: usize, len: usize) -> Parsed
+#[tactic(auto, unfolding(crate::specs::Layouts::status_at))]
+fn status_at(s: &[u8], p: usize, len: usize) -> Result<(Submessage, Span, Cursor), Refusal>
     requires { (p + len ≤ length s.now) × (3 ≤ len) }
     ensures { result ≡ status_at s.now p len }
 {
-    match StatusCode::from_u8(s[p + 2]) {
-        CodeRead::Code(status) => {
-            let m = Submessage::Status(StatusPayload {
-                related_object_id: ObjectNumber(word_at(s, p)),
-                status,
-            });
-            plain_at(m, p, len)
-        }
-        CodeRead::Refused(r) => Parsed::Refused(r),
-    }
+    let status = StatusCode::try_from(s[p + 2])?;
+    let m = Submessage::Status(StatusPayload {
+        related_object_id: ObjectNumber(word_at(s, p)),
+        status,
+    });
+    plain_at(m, p, len)
 }
 
 fn write_data_at(s: &[u8], p: usize) -> Submessage
@@ -192,7 +186,13 @@ fn fragment_at(s: &[u8], p: usize) -> Submessage
 }
 
 // The payload of `len` bytes at `p`: the id alone decides which layout is read.
-pub(crate) fn layout_at(s: &[u8], id: u8, p: usize, len: usize) -> Parsed
+#[tactic(auto, unfolding(crate::specs::Layouts::layout_at, crate::specs::Layouts::least_of))]
+pub(crate) fn layout_at(
+    s: &[u8],
+    id: u8,
+    p: usize,
+    len: usize,
+) -> Result<(Submessage, Span, Cursor), Refusal>
     requires { (p + len ≤ length s.now) × (least_of id ≤ len) }
     ensures { result ≡ layout_at s.now id p len }
 {
@@ -200,16 +200,13 @@ pub(crate) fn layout_at(s: &[u8], id: u8, p: usize, len: usize) -> Parsed
         0x00 => plain_at(create_client_at(s, p), p, len),
         0x01 => create_at(s, p, len),
         0x02 => plain_at(delete_at(s, p), p, len),
-        0x03..=0x04 => Parsed::Refused(Refusal::UnknownSubmessageId(id)),
         0x05 => status_at(s, p, len),
-        0x06 => Parsed::Refused(Refusal::UnknownSubmessageId(id)),
         0x07 => bodied_at(write_data_at(s, p), 2, p, len),
         0x08 => plain_at(read_data_at(s, p), p, len),
         0x09 => bodied_at(data_at(s, p), 2, p, len),
-        0x0A..=0x0C => Parsed::Refused(Refusal::UnknownSubmessageId(id)),
         0x0D => plain_at(heartbeat_at(s, p), p, len),
         0x0E => plain_at(acknack_at(s, p), p, len),
         0x0F => bodied_at(fragment_at(s, p), 4, p, len),
-        0x10..=0xFF => Parsed::Refused(Refusal::UnknownSubmessageId(id)),
+        _ => Err(Refusal::UnknownSubmessageId(id)),
     }
 }

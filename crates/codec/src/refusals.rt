@@ -2,7 +2,7 @@
 ghost use Rattle.std.specs.Prelude.{◌≡◌};
 ghost use Rattle.codec.specs.Refusals.{number_of, byte_of};
 
-#[derive(Clone, Copy)]
+#[derive(Clone, Copy, Debug, PartialEq, Eq, Hash)]
 pub enum Refusal {
     BufferTooShort,
     UnknownSubmessageId(u8),
@@ -60,26 +60,10 @@ impl Refusal {
         ensures { result ≡ byte_of self }
     {
         match self {
-            Refusal::UnknownSubmessageId(b) => b,
-            Refusal::UnknownObjectKind(b) => b,
-            Refusal::UnknownStatusCode(b) => b,
-            Refusal::BufferTooShort => 0,
-            Refusal::PayloadLengthMismatch => 0,
-            Refusal::SessionFull => 0,
-            Refusal::FragmentSizeZero => 0,
-            Refusal::EmptyPayload => 0,
-            Refusal::TooManyFragments => 0,
-            Refusal::FragmentNumber => 0,
-            Refusal::MissingFragments => 0,
-            Refusal::TooLong => 0,
-            Refusal::OutputTooShort => 0,
-            Refusal::StoreFull => 0,
-            Refusal::OutOfTurn => 0,
-            Refusal::OverLimit => 0,
-            Refusal::NotInFragments => 0,
-            Refusal::IllFormed => 0,
-            Refusal::WindowFault => 0,
-            Refusal::NoSuchMinute => 0,
+            Refusal::UnknownSubmessageId(b)
+            | Refusal::UnknownObjectKind(b)
+            | Refusal::UnknownStatusCode(b) => b,
+            _ => 0,
         }
     }
 }

@@ -7,12 +7,12 @@ use crate::refusals::Refusal;
 
 // The number by which a session names an object. It is never a bridge handle.
 #[repr(C)]
-#[derive(Clone, Copy)]
+#[derive(Clone, Copy, Debug, PartialEq, Eq, PartialOrd, Ord, Hash)]
 pub struct ObjectNumber(pub u16);
 
-#[derive(Clone, Copy)]
+#[derive(Clone, Copy, Debug, PartialEq, Eq, PartialOrd, Ord, Hash)]
 pub enum ObjectKind {
-    Participant,
+    Participant = 1,
     Topic,
     Publisher,
     Subscriber,
@@ -20,42 +20,34 @@ pub enum ObjectKind {
     DataReader,
 }
 
-#[derive(Clone, Copy)]
-pub enum KindRead {
-    Kind(ObjectKind),
-    Refused(Refusal),
+impl TryFrom<u8> for ObjectKind {
+    type Error = Refusal;
+
+    ghost try_from_gives = { λ v r. r ≡ kind_of v };
+
+    #[tactic(auto, unfolding(crate::specs::Submessages::kind_of))]
+    fn try_from(v: u8) -> Result<ObjectKind, Refusal> {
+        match v {
+            1 => Ok(ObjectKind::Participant),
+            2 => Ok(ObjectKind::Topic),
+            3 => Ok(ObjectKind::Publisher),
+            4 => Ok(ObjectKind::Subscriber),
+            5 => Ok(ObjectKind::DataWriter),
+            6 => Ok(ObjectKind::DataReader),
+            _ => Err(Refusal::UnknownObjectKind(v)),
+        }
+    }
 }
 
 impl ObjectKind {
-    pub fn from_u8(v: u8) -> KindRead
-        ensures { result ≡ kind_of v }
-    {
-        match v {
-            1 => KindRead::Kind(ObjectKind::Participant),
-            2 => KindRead::Kind(ObjectKind::Topic),
-            3 => KindRead::Kind(ObjectKind::Publisher),
-            4 => KindRead::Kind(ObjectKind::Subscriber),
-            5 => KindRead::Kind(ObjectKind::DataWriter),
-            6 => KindRead::Kind(ObjectKind::DataReader),
-            _ => KindRead::Refused(Refusal::UnknownObjectKind(v)),
-        }
-    }
-
     pub fn as_u8(self) -> u8
         ensures { result ≡ kind_byte self }
     {
-        match self {
-            ObjectKind::Participant => 1,
-            ObjectKind::Topic => 2,
-            ObjectKind::Publisher => 3,
-            ObjectKind::Subscriber => 4,
-            ObjectKind::DataWriter => 5,
-            ObjectKind::DataReader => 6,
-        }
+        self as u8
     }
 }
 
-#[derive(Clone, Copy)]
+#[derive(Clone, Copy, Debug, PartialEq, Eq, PartialOrd, Ord, Hash)]
 pub enum StatusCode {
     Ok,
     ErrUnknownRef,
@@ -64,101 +56,94 @@ pub enum StatusCode {
     ErrResources,
 }
 
-#[derive(Clone, Copy)]
-pub enum CodeRead {
-    Code(StatusCode),
-    Refused(Refusal),
+impl TryFrom<u8> for StatusCode {
+    type Error = Refusal;
+
+    ghost try_from_gives = { λ v r. r ≡ code_of v };
+
+    #[tactic(auto, unfolding(crate::specs::Submessages::code_of))]
+    fn try_from(v: u8) -> Result<StatusCode, Refusal> {
+        match v {
+            0 => Ok(StatusCode::Ok),
+            1 => Ok(StatusCode::ErrUnknownRef),
+            2 => Ok(StatusCode::ErrInvalidData),
+            3 => Ok(StatusCode::ErrIncompatible),
+            4 => Ok(StatusCode::ErrResources),
+            _ => Err(Refusal::UnknownStatusCode(v)),
+        }
+    }
 }
 
 impl StatusCode {
-    pub fn from_u8(v: u8) -> CodeRead
-        ensures { result ≡ code_of v }
-    {
-        match v {
-            0 => CodeRead::Code(StatusCode::Ok),
-            1 => CodeRead::Code(StatusCode::ErrUnknownRef),
-            2 => CodeRead::Code(StatusCode::ErrInvalidData),
-            3 => CodeRead::Code(StatusCode::ErrIncompatible),
-            4 => CodeRead::Code(StatusCode::ErrResources),
-            _ => CodeRead::Refused(Refusal::UnknownStatusCode(v)),
-        }
-    }
-
     pub fn as_u8(self) -> u8
         ensures { result ≡ code_byte self }
     {
-        match self {
-            StatusCode::Ok => 0,
-            StatusCode::ErrUnknownRef => 1,
-            StatusCode::ErrInvalidData => 2,
-            StatusCode::ErrIncompatible => 3,
-            StatusCode::ErrResources => 4,
-        }
+        self as u8
     }
 }
 
 // The client's key is its four bytes read as one number, low byte first.
-#[derive(Clone, Copy)]
+#[derive(Clone, Copy, Debug, PartialEq, Eq)]
 pub struct CreateClientPayload {
     pub client_key: u32,
     pub properties: u8,
 }
 
 // The parent of a Participant is its domain; that of every other kind is an object's number.
-#[derive(Clone, Copy)]
+#[derive(Clone, Copy, Debug, PartialEq, Eq)]
 pub struct CreatePayload {
     pub object_id: ObjectNumber,
     pub kind: ObjectKind,
     pub parent_id: u16,
 }
 
-#[derive(Clone, Copy)]
+#[derive(Clone, Copy, Debug, PartialEq, Eq)]
 pub struct DeletePayload {
     pub object_id: ObjectNumber,
 }
 
-#[derive(Clone, Copy)]
+#[derive(Clone, Copy, Debug, PartialEq, Eq)]
 pub struct StatusPayload {
     pub related_object_id: ObjectNumber,
     pub status: StatusCode,
 }
 
-#[derive(Clone, Copy)]
+#[derive(Clone, Copy, Debug, PartialEq, Eq)]
 pub struct WriteDataPayload {
     pub writer_id: ObjectNumber,
 }
 
-#[derive(Clone, Copy)]
+#[derive(Clone, Copy, Debug, PartialEq, Eq)]
 pub struct ReadDataPayload {
     pub reader_id: ObjectNumber,
     pub max_samples: u16,
 }
 
-#[derive(Clone, Copy)]
+#[derive(Clone, Copy, Debug, PartialEq, Eq)]
 pub struct DataPayload {
     pub reader_id: ObjectNumber,
 }
 
-#[derive(Clone, Copy)]
+#[derive(Clone, Copy, Debug, PartialEq, Eq)]
 pub struct HeartbeatPayload {
     pub first_unacked_seq: u16,
     pub last_seq: u16,
 }
 
-#[derive(Clone, Copy)]
+#[derive(Clone, Copy, Debug, PartialEq, Eq)]
 pub struct AcknackPayload {
     pub first_unacked_seq: u16,
     pub nack_bitmap: u16,
 }
 
 // Which of a cut's fragments a submessage holds, and how many there are.
-#[derive(Clone, Copy)]
+#[derive(Clone, Copy, Debug, PartialEq, Eq)]
 pub struct FragmentPayload {
     pub fragment_nr: u16,
     pub total_fragments: u16,
 }
 
-#[derive(Clone, Copy)]
+#[derive(Clone, Copy, Debug, PartialEq, Eq)]
 pub enum Submessage {
     CreateClient(CreateClientPayload),
     Create(CreatePayload),

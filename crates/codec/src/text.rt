@@ -1,4 +1,5 @@
 // Text: which bytes are UTF-8 as RFC 3629 allows it (document 02, W7).
+// The table stands here, and not `std::str::from_utf8`: four must-fail edits change it (surrogates_pass, overlong_passes and the like).
 ghost use Rattle.std.specs.Prelude.{◌≡◌, ◌+◌, ◌≤◌, ◌<◌, length, drop};
 ghost use Rattle.codec.specs.Text.{tail, table, in_range, behind_first, fits, character_len, well_formed, ranges_of};
 
@@ -20,6 +21,7 @@ fn waits(need: u8, low: u8, high: u8) -> Wait
 }
 
 // The first two rows of RFC 3629's table, which most names need alone; bytes between them begin no character.
+#[tactic(auto, unfolding(crate::specs::Text::ranges_of, crate::specs::Text::table))]
 fn first_low(b: u8) -> Wait
     requires { b < 0xE0 }
     ensures { ranges_of result ≡ behind_first table b }
@@ -34,6 +36,7 @@ fn first_low(b: u8) -> Wait
 }
 
 // The whole table, by the first byte of a character. Overlong forms, surrogates and what lies above U+10FFFF are in none of its rows.
+#[tactic(auto, unfolding(crate::specs::Text::ranges_of, crate::specs::Text::table))]
 fn first(b: u8) -> Wait
     ensures { ranges_of result ≡ behind_first table b }
 {
@@ -62,6 +65,7 @@ fn is_tail(b: u8) -> bool
 }
 
 // Whether the bytes behind a character's first, which are there, are what it needs.
+#[tactic(auto, using(crate::proofs::text::Fits::fit_laws))]
 fn fit_behind(text: &[u8], at: usize, w: Wait) -> bool
     requires { (w.need ≤ 3) × (at + w.need < length text.now) }
     ensures { result ≡ fits (ranges_of w) (drop (at + 1) text.now) }
@@ -115,6 +119,7 @@ fn character_len(text: &[u8], at: usize) -> usize
 pub fn is_text(text: &[u8]) -> bool
     ensures { result ≡ well_formed text.now }
 {
+    // A `while`, since each character says how many bytes it has.
     let mut at: usize = 0;
     while at < text.len() {
         let n = character_len(text, at);

@@ -6,7 +6,7 @@ ghost use Rattle.codec.specs.Layouts.{least_of};
 ghost use Rattle.codec.specs.Submessages.{id_of};
 ghost use Rattle.codec.specs.Writing.{fixed_bytes, body_len, payload_bytes, sub_bytes, message_bytes};
 
-use crate::bytes::{Written, copy_in, fits, put_two, put_word};
+use crate::bytes::{copy_in, fits, put_two, put_word};
 use crate::header::{MESSAGE_HEADER_SIZE, MessageHeader, SUBMESSAGE_HEADER_SIZE, put_head};
 use crate::layouts::least_len;
 use crate::refusals::Refusal;
@@ -20,16 +20,11 @@ fn body_len(m: Submessage, n: usize) -> usize
     ensures { result ≡ body_len m n }
 {
     match m {
-        Submessage::CreateClient(_) => 0,
-        Submessage::Create(_) => n,
-        Submessage::Delete(_) => 0,
-        Submessage::Status(_) => 0,
-        Submessage::WriteData(_) => n,
-        Submessage::ReadData(_) => 0,
-        Submessage::Data(_) => n,
-        Submessage::Heartbeat(_) => 0,
-        Submessage::Acknack(_) => 0,
-        Submessage::Fragment(_) => n,
+        Submessage::Create(_)
+        | Submessage::WriteData(_)
+        | Submessage::Data(_)
+        | Submessage::Fragment(_) => n,
+        _ => 0,
     }
 }
 
@@ -42,15 +37,16 @@ fn payload_len(m: Submessage, n: usize) -> usize
 }
 
 // CREATE_CLIENT's key and properties.
+#[tactic(auto, using(crate::proofs::bytes::Laws::put_behind, crate::proofs::bytes::Laws::put_one, crate::proofs::bytes::Laws::quad_bytes), unfolding(crate::specs::Bytes::le16, crate::specs::Bytes::le32))]
 fn put_client(out: &mut [u8], at: usize, key: u32, properties: u8)
     requires { at + 5 ≤ length out.old }
     ensures { out.new ≡ put_at out.old at (le32 key ++ (properties ∷ [])) }
 {
-    put_word(out, at, (key % 65536) as u16);
-    put_word(out, at + 2, (key / 65536) as u16);
+    copy_in(out, at, &key.to_le_bytes());
     out[at + 4] = properties;
 }
 
+#[tactic(auto, using(crate::proofs::bytes::Laws::put_behind, crate::proofs::bytes::Laws::put_one), unfolding(crate::specs::Bytes::le16))]
 fn put_marked(out: &mut [u8], at: usize, n: ObjectNumber, mark: u8)
     requires { at + 3 ≤ length out.old }
     ensures { out.new ≡ put_at out.old at (le16 n.0 ++ (mark ∷ [])) }
@@ -60,6 +56,7 @@ fn put_marked(out: &mut [u8], at: usize, n: ObjectNumber, mark: u8)
 }
 
 // The fixed bytes of a submessage, at `at`.
+#[tactic(auto, using(crate::proofs::bytes::Laws::put_behind), unfolding(crate::specs::Writing::fixed_bytes, crate::specs::Bytes::le16, crate::specs::Bytes::le32))]
 fn put_fixed(out: &mut [u8], at: usize, m: Submessage)
     requires { at + length (fixed_bytes m) ≤ length out.old }
     ensures { out.new ≡ put_at out.old at (fixed_bytes m) }
@@ -97,6 +94,7 @@ fn put_payload(out: &mut [u8], at: usize, m: Submessage, body: &[u8])
 }
 
 // A submessage that fits, with a payload of `len` bytes.
+#[tactic(auto, using(crate::proofs::writing::Laws::sub_put))]
 fn put_submessage(out: &mut [u8], at: usize, m: Submessage, body: &[u8], len: u16)
     requires { (len ≡ length (payload_bytes m body.now)) × (at + 4 + len ≤ length out.old) }
     ensures { out.new ≡ put_at out.old at (sub_bytes m body.now) }
@@ -106,20 +104,25 @@ fn put_submessage(out: &mut [u8], at: usize, m: Submessage, body: &[u8], len: u1
 }
 
 // Writes the submessage from `at` on.
-pub fn write_submessage(out: &mut [u8], at: usize, m: Submessage, body: &[u8]) -> Written
+pub fn write_submessage(
+    out: &mut [u8],
+    at: usize,
+    m: Submessage,
+    body: &[u8],
+) -> Result<usize, Refusal>
     ensures { (result ≡ write_of (length (payload_bytes m body.now)) out.old at (sub_bytes m body.now))
         × (out.new ≡ write_bytes (length (payload_bytes m body.now)) out.old at (sub_bytes m body.now)) }
 {
     let len = payload_len(m, body.len());
     if MAX_PAYLOAD < len {
-        return Written::Refused(Refusal::TooLong);
+        return Err(Refusal::TooLong);
     }
     let size = SUBMESSAGE_HEADER_SIZE + len;
     if fits(out.len(), at, size) {
         put_submessage(out, at, m, body, len as u16);
-        return Written::Bytes(size);
+        return Ok(size);
     }
-    Written::Refused(Refusal::OutputTooShort)
+    Err(Refusal::OutputTooShort)
 }
 
 // Writes a message of the header and the submessage from `at` on.
@@ -129,13 +132,13 @@ pub fn write_message(
     header: MessageHeader,
     m: Submessage,
     body: &[u8],
-) -> Written
+) -> Result<usize, Refusal>
     ensures { (result ≡ write_of (length (payload_bytes m body.now)) out.old at (message_bytes header m body.now))
         × (out.new ≡ write_bytes (length (payload_bytes m body.now)) out.old at (message_bytes header m body.now)) }
 {
     let len = payload_len(m, body.len());
     if MAX_PAYLOAD < len {
-        return Written::Refused(Refusal::TooLong);
+        return Err(Refusal::TooLong);
     }
     let size = MESSAGE_HEADER_SIZE + SUBMESSAGE_HEADER_SIZE + len;
     if fits(out.len(), at, size) {
@@ -147,7 +150,7 @@ pub fn write_message(
             header.sequence_nr,
         );
         put_submessage(out, at + MESSAGE_HEADER_SIZE, m, body, len as u16);
-        return Written::Bytes(size);
+        return Ok(size);
     }
-    Written::Refused(Refusal::OutputTooShort)
+    Err(Refusal::OutputTooShort)
 }

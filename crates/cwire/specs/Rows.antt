@@ -1,19 +1,19 @@
 -- What a datagram says, as numbers: its header, and a row for each submessage.
-use Rattle.std.specs.Prelude.{ℕ, ◌+◌, ◌*◌, cond, List, [], ◌∷◌, ◌++◌, ltb, length, drop}
+use Rattle.std.specs.Prelude.{ℕ, ◌+◌, ◌*◌, cond, List, [], ◌∷◌, ◌++◌, ltb, length, drop, Err, Ok, Result}
 use Rattle.codec.specs.Answers.{Answer, gives, refused_as, refusal}
 use Rattle.codec.specs.Submessages.{id_of, kind_byte, code_byte}
 use Rattle.codec.specs.Reading.{Item, Items, items, stopped, Message, message, refused, message_of}
-use Rattle.codec.specs.declared.header.HeaderRead.{HeaderRead}
-use Rattle.codec.specs.declared.header.HeaderRead.TheVariants as header
 use Rattle.codec.specs.declared.layouts.Span.{Span}
 use Rattle.codec.specs.declared.submessages.Submessage.{Submessage}
 use Rattle.codec.specs.declared.submessages.Submessage.TheVariants.{CreateClient, Create, Delete, Status, WriteData, ReadData, Data, Heartbeat, Acknack, Fragment}
 use Rattle.cwire.specs.Answer.{packed}
+use Rattle.codec.specs.declared.header.MessageHeader.{MessageHeader}
+use Rattle.codec.specs.declared.refusals.Refusal.{Refusal}
 
 -- "Header: session, stream (a byte each), sequence (2)", in one number
-abbrev pub header_number : HeaderRead → Answer ℕ
-header_number (header.Header h) = gives (h.session_id + 256 * h.stream_id + 65536 * h.sequence_nr)
-header_number (header.Refused r) = refusal r
+abbrev pub header_number : Result MessageHeader Refusal → Answer ℕ
+header_number (Ok h) = gives (h.session_id + 256 * h.stream_id + 65536 * h.sequence_nr)
+header_number (Err r) = refusal r
 
 -- the fixed fields of each kind, in the order of the table's column "payload": the object or the key, then a byte or the first of two
 -- numbers, then the last; 0 where a kind has no such field

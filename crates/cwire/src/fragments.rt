@@ -4,25 +4,20 @@ ghost use Rattle.codec.specs.Answers.{count_answer, written_answer};
 ghost use Rattle.codec.specs.Cutting.{count_of, fragment_of, fragment_out};
 ghost use Rattle.cwire.specs.Answer.{packed};
 
-use crate::answers::{given, refused, written};
-use codec::cutting::{FragmentCount, fragment, fragment_count};
+use crate::answers::answer;
+use codec::cutting::{fragment, fragment_count};
 
 // How many fragments with bodies of up to `size` bytes the payload is cut into.
-#[unsafe(no_mangle)]
-pub extern "C" fn xrce_wire_fragments(payload: &[u8], size: u64) -> u64
+pub fn xrce_wire_fragments(payload: &[u8], size: u64) -> u64
     ensures { result ≡ packed (count_answer (count_of payload.now size)) }
 {
-    match fragment_count(payload, size as usize) {
-        FragmentCount::Fragments(n) => given(n as usize),
-        FragmentCount::Refused(why) => refused(why),
-    }
+    answer(fragment_count(payload, size as usize).map(usize::from))
 }
 
 // The fragment of that number at the start of the output.
-#[unsafe(no_mangle)]
-pub extern "C" fn xrce_wire_fragment(payload: &[u8], size: u64, number: u16, out: &mut [u8]) -> u64
+pub fn xrce_wire_fragment(payload: &[u8], size: u64, number: u16, out: &mut [u8]) -> u64
     ensures { (result ≡ packed (written_answer (fragment_of payload.now size number out.old)))
         × (out.new ≡ fragment_out payload.now size number out.old) }
 {
-    written(fragment(payload, size as usize, number, out))
+    answer(fragment(payload, size as usize, number, out))
 }

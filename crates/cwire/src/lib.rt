@@ -4,6 +4,7 @@
 
 mod answers;
 pub mod fragments;
+mod limits;
 pub mod parsing;
 mod rows;
 mod saying;

@@ -1,70 +1,45 @@
 // A submessage as a row of eight numbers.
-ghost use Rattle.std.specs.Prelude.{◌≡◌, [], ◌∷◌};
-ghost use Rattle.cwire.specs.Rows.{row_of};
+ghost use Rattle.std.specs.Prelude.{◌≡◌};
+ghost use Rattle.cwire.specs.Rows.{fields_of, row_of};
 
 use codec::layouts::Span;
 use codec::submessages::Submessage;
 
-// The id and the fields, then where the variable part and the header stand.
-fn row(id: u64, a: u64, b: u64, c: u64, x: Span, at: usize) -> [u64; 8]
-    ensures { result ≡ id ∷ a ∷ b ∷ c ∷ x.start ∷ x.len ∷ at ∷ 0 ∷ [] }
+// The fixed fields of each kind; 0 where a kind has no such field.
+fn fields_of(m: Submessage) -> [u64; 3]
+    ensures { result ≡ fields_of m }
 {
-    [id, a, b, c, x.start as u64, x.len as u64, at as u64, 0]
+    match m {
+        Submessage::CreateClient(p) => [p.client_key.into(), p.properties.into(), 0],
+        Submessage::Create(p) => [
+            p.object_id.0.into(),
+            p.kind.as_u8().into(),
+            p.parent_id.into(),
+        ],
+        Submessage::Delete(p) => [p.object_id.0.into(), 0, 0],
+        Submessage::Status(p) => [p.related_object_id.0.into(), p.status.as_u8().into(), 0],
+        Submessage::WriteData(p) => [p.writer_id.0.into(), 0, 0],
+        Submessage::ReadData(p) => [p.reader_id.0.into(), p.max_samples.into(), 0],
+        Submessage::Data(p) => [p.reader_id.0.into(), 0, 0],
+        Submessage::Heartbeat(p) => [0, p.first_unacked_seq.into(), p.last_seq.into()],
+        Submessage::Acknack(p) => [0, p.first_unacked_seq.into(), p.nack_bitmap.into()],
+        Submessage::Fragment(p) => [0, p.fragment_nr.into(), p.total_fragments.into()],
+    }
 }
 
-// The row of a submessage whose header stands at `at`.
+// The row of a submessage whose header stands at `at`: the id and the fields, then where the variable part and the header stand.
 pub(crate) fn row_of(m: Submessage, x: Span, at: usize) -> [u64; 8]
     ensures { result ≡ row_of at m x }
 {
-    match m {
-        Submessage::CreateClient(p) => {
-            row(0x00, p.client_key as u64, p.properties as u64, 0, x, at)
-        }
-        Submessage::Create(p) => {
-            let kind = p.kind;
-            let mark = kind.as_u8() as u64;
-            row(0x01, p.object_id.0 as u64, mark, p.parent_id as u64, x, at)
-        }
-        Submessage::Delete(p) => row(0x02, p.object_id.0 as u64, 0, 0, x, at),
-        Submessage::Status(p) => {
-            let status = p.status;
-            let mark = status.as_u8() as u64;
-            row(0x05, p.related_object_id.0 as u64, mark, 0, x, at)
-        }
-        Submessage::WriteData(p) => row(0x07, p.writer_id.0 as u64, 0, 0, x, at),
-        Submessage::ReadData(p) => {
-            row(0x08, p.reader_id.0 as u64, p.max_samples as u64, 0, x, at)
-        }
-        Submessage::Data(p) => row(0x09, p.reader_id.0 as u64, 0, 0, x, at),
-        Submessage::Heartbeat(p) => {
-            row(
-                0x0D,
-                0,
-                p.first_unacked_seq as u64,
-                p.last_seq as u64,
-                x,
-                at,
-            )
-        }
-        Submessage::Acknack(p) => {
-            row(
-                0x0E,
-                0,
-                p.first_unacked_seq as u64,
-                p.nack_bitmap as u64,
-                x,
-                at,
-            )
-        }
-        Submessage::Fragment(p) => {
-            row(
-                0x0F,
-                0,
-                p.fragment_nr as u64,
-                p.total_fragments as u64,
-                x,
-                at,
-            )
-        }
-    }
+    let [a, b, c] = fields_of(m);
+    [
+        m.id().into(),
+        a,
+        b,
+        c,
+        x.start as u64,
+        x.len as u64,
+        at as u64,
+        0,
+    ]
 }

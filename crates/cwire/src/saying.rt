@@ -2,177 +2,120 @@
 ghost use Rattle.std.specs.Prelude.{◌≡◌};
 ghost use Rattle.cwire.specs.Saying.{client_said, create_said, status_said, delete_said, write_said, read_said, data_said, heartbeat_said, acknack_said, fragment_said, said_by, row_says};
 
+use crate::limits::field;
 use codec::refusals::Refusal;
 use codec::submessages::{
-    AcknackPayload, CodeRead, CreateClientPayload, CreatePayload, DataPayload, DeletePayload,
-    FragmentPayload, HeartbeatPayload, KindRead, ObjectKind, ObjectNumber, ReadDataPayload,
-    StatusCode, StatusPayload, Submessage, WriteDataPayload,
+    AcknackPayload, CreateClientPayload, CreatePayload, DataPayload, DeletePayload,
+    FragmentPayload, HeartbeatPayload, ObjectKind, ObjectNumber, ReadDataPayload, StatusCode,
+    StatusPayload, Submessage, WriteDataPayload,
 };
 
-// What a row says, or why it says nothing.
-#[derive(Clone, Copy)]
-pub enum Said {
-    Sub(Submessage),
-    Refused(Refusal),
-}
-
-// The greatest number of one, two and four bytes.
-const BYTE: u64 = 0xFF;
-
-const WORD: u64 = 0xFFFF;
-
-const QUAD: u64 = 0xFFFF_FFFF;
-
-fn client(key: u64, properties: u64) -> Said
+#[tactic(auto, unfolding(crate::specs::Saying::client_said))]
+fn client(key: u64, properties: u64) -> Result<Submessage, Refusal>
     ensures { result ≡ client_said key properties }
 {
-    if QUAD < key {
-        return Said::Refused(Refusal::OverLimit);
-    }
-    if BYTE < properties {
-        return Said::Refused(Refusal::OverLimit);
-    }
-    Said::Sub(Submessage::CreateClient(CreateClientPayload {
-        client_key: key as u32,
-        properties: properties as u8,
+    Ok(Submessage::CreateClient(CreateClientPayload {
+        client_key: field(key)?,
+        properties: field(properties)?,
     }))
 }
 
-fn create(object: u64, mark: u64, parent: u64) -> Said
+#[tactic(auto, unfolding(crate::specs::Saying::create_said))]
+fn create(object: u64, mark: u64, parent: u64) -> Result<Submessage, Refusal>
     ensures { result ≡ create_said object mark parent }
 {
-    if WORD < object {
-        return Said::Refused(Refusal::OverLimit);
-    }
-    if BYTE < mark {
-        return Said::Refused(Refusal::OverLimit);
-    }
-    if WORD < parent {
-        return Said::Refused(Refusal::OverLimit);
-    }
-    match ObjectKind::from_u8(mark as u8) {
-        KindRead::Kind(kind) => Said::Sub(Submessage::Create(CreatePayload {
-            object_id: ObjectNumber(object as u16),
-            kind,
-            parent_id: parent as u16,
-        })),
-        KindRead::Refused(why) => Said::Refused(why),
-    }
+    let object_id = ObjectNumber(field(object)?);
+    let mark: u8 = field(mark)?;
+    let parent_id = field(parent)?;
+    Ok(Submessage::Create(CreatePayload {
+        object_id,
+        kind: ObjectKind::try_from(mark)?,
+        parent_id,
+    }))
 }
 
-fn status(object: u64, mark: u64) -> Said
+#[tactic(auto, unfolding(crate::specs::Saying::status_said))]
+fn status(object: u64, mark: u64) -> Result<Submessage, Refusal>
     ensures { result ≡ status_said object mark }
 {
-    if WORD < object {
-        return Said::Refused(Refusal::OverLimit);
-    }
-    if BYTE < mark {
-        return Said::Refused(Refusal::OverLimit);
-    }
-    match StatusCode::from_u8(mark as u8) {
-        CodeRead::Code(code) => Said::Sub(Submessage::Status(StatusPayload {
-            related_object_id: ObjectNumber(object as u16),
-            status: code,
-        })),
-        CodeRead::Refused(why) => Said::Refused(why),
-    }
+    let related_object_id = ObjectNumber(field(object)?);
+    let mark: u8 = field(mark)?;
+    Ok(Submessage::Status(StatusPayload {
+        related_object_id,
+        status: StatusCode::try_from(mark)?,
+    }))
 }
 
-fn delete(object: u64) -> Said
+#[tactic(auto, unfolding(crate::specs::Saying::delete_said))]
+fn delete(object: u64) -> Result<Submessage, Refusal>
     ensures { result ≡ delete_said object }
 {
-    if WORD < object {
-        return Said::Refused(Refusal::OverLimit);
-    }
-    Said::Sub(Submessage::Delete(DeletePayload {
-        object_id: ObjectNumber(object as u16),
+    Ok(Submessage::Delete(DeletePayload {
+        object_id: ObjectNumber(field(object)?),
     }))
 }
 
-fn write_data(writer: u64) -> Said
+#[tactic(auto, unfolding(crate::specs::Saying::write_said))]
+fn write_data(writer: u64) -> Result<Submessage, Refusal>
     ensures { result ≡ write_said writer }
 {
-    if WORD < writer {
-        return Said::Refused(Refusal::OverLimit);
-    }
-    Said::Sub(Submessage::WriteData(WriteDataPayload {
-        writer_id: ObjectNumber(writer as u16),
+    Ok(Submessage::WriteData(WriteDataPayload {
+        writer_id: ObjectNumber(field(writer)?),
     }))
 }
 
-fn read_data(reader: u64, samples: u64) -> Said
+#[tactic(auto, unfolding(crate::specs::Saying::read_said))]
+fn read_data(reader: u64, samples: u64) -> Result<Submessage, Refusal>
     ensures { result ≡ read_said reader samples }
 {
-    if WORD < reader {
-        return Said::Refused(Refusal::OverLimit);
-    }
-    if WORD < samples {
-        return Said::Refused(Refusal::OverLimit);
-    }
-    Said::Sub(Submessage::ReadData(ReadDataPayload {
-        reader_id: ObjectNumber(reader as u16),
-        max_samples: samples as u16,
+    Ok(Submessage::ReadData(ReadDataPayload {
+        reader_id: ObjectNumber(field(reader)?),
+        max_samples: field(samples)?,
     }))
 }
 
-fn data_of(reader: u64) -> Said
+#[tactic(auto, unfolding(crate::specs::Saying::data_said))]
+fn data_of(reader: u64) -> Result<Submessage, Refusal>
     ensures { result ≡ data_said reader }
 {
-    if WORD < reader {
-        return Said::Refused(Refusal::OverLimit);
-    }
-    Said::Sub(Submessage::Data(DataPayload {
-        reader_id: ObjectNumber(reader as u16),
+    Ok(Submessage::Data(DataPayload {
+        reader_id: ObjectNumber(field(reader)?),
     }))
 }
 
-fn heartbeat(first: u64, last: u64) -> Said
+#[tactic(auto, unfolding(crate::specs::Saying::heartbeat_said))]
+fn heartbeat(first: u64, last: u64) -> Result<Submessage, Refusal>
     ensures { result ≡ heartbeat_said first last }
 {
-    if WORD < first {
-        return Said::Refused(Refusal::OverLimit);
-    }
-    if WORD < last {
-        return Said::Refused(Refusal::OverLimit);
-    }
-    Said::Sub(Submessage::Heartbeat(HeartbeatPayload {
-        first_unacked_seq: first as u16,
-        last_seq: last as u16,
+    Ok(Submessage::Heartbeat(HeartbeatPayload {
+        first_unacked_seq: field(first)?,
+        last_seq: field(last)?,
     }))
 }
 
-fn acknack(first: u64, bitmap: u64) -> Said
+#[tactic(auto, unfolding(crate::specs::Saying::acknack_said))]
+fn acknack(first: u64, bitmap: u64) -> Result<Submessage, Refusal>
     ensures { result ≡ acknack_said first bitmap }
 {
-    if WORD < first {
-        return Said::Refused(Refusal::OverLimit);
-    }
-    if WORD < bitmap {
-        return Said::Refused(Refusal::OverLimit);
-    }
-    Said::Sub(Submessage::Acknack(AcknackPayload {
-        first_unacked_seq: first as u16,
-        nack_bitmap: bitmap as u16,
+    Ok(Submessage::Acknack(AcknackPayload {
+        first_unacked_seq: field(first)?,
+        nack_bitmap: field(bitmap)?,
     }))
 }
 
-fn fragment(number: u64, total: u64) -> Said
+#[tactic(auto, unfolding(crate::specs::Saying::fragment_said))]
+fn fragment(number: u64, total: u64) -> Result<Submessage, Refusal>
     ensures { result ≡ fragment_said number total }
 {
-    if WORD < number {
-        return Said::Refused(Refusal::OverLimit);
-    }
-    if WORD < total {
-        return Said::Refused(Refusal::OverLimit);
-    }
-    Said::Sub(Submessage::Fragment(FragmentPayload {
-        fragment_nr: number as u16,
-        total_fragments: total as u16,
+    Ok(Submessage::Fragment(FragmentPayload {
+        fragment_nr: field(number)?,
+        total_fragments: field(total)?,
     }))
 }
 
 // The id alone decides which fields a row has.
-fn said_by(id: u8, a: u64, b: u64, c: u64) -> Said
+#[tactic(auto, unfolding(crate::specs::Saying::said_by))]
+fn said_by(id: u8, a: u64, b: u64, c: u64) -> Result<Submessage, Refusal>
     ensures { result ≡ said_by id a b c }
 {
     match id {
@@ -186,20 +129,17 @@ fn said_by(id: u8, a: u64, b: u64, c: u64) -> Said
         0x0D => heartbeat(b, c),
         0x0E => acknack(b, c),
         0x0F => fragment(b, c),
-        _ => Said::Refused(Refusal::UnknownSubmessageId(id)),
+        _ => Err(Refusal::UnknownSubmessageId(id)),
     }
 }
 
 // The submessage that a row says: 16 for a row that is none, 2, 16 for a field, then 3 or 4.
-pub(crate) fn row_says(row: &[u64]) -> Said
+#[tactic(auto, unfolding(crate::specs::Saying::row_says))]
+pub(crate) fn row_says(row: &[u64]) -> Result<Submessage, Refusal>
     ensures { result ≡ row_says row.now }
 {
-    if row.len() < 8 {
-        return Said::Refused(Refusal::OverLimit);
-    }
-    let id = row[0];
-    if BYTE < id {
-        return Said::Refused(Refusal::OverLimit);
-    }
-    said_by(id as u8, row[1], row[2], row[3])
+    let [id, a, b, c, _, _, _, _, ..] = row else {
+        return Err(Refusal::OverLimit);
+    };
+    said_by(field(*id)?, *a, *b, *c)
 }

@@ -4,7 +4,6 @@
 ghost use Rattle.std.specs.Prelude.{◌<◌, ◌≤◌, length, take, IfOk};
 ghost use Rattle.std.specs.Io.KnownBytes.{Consumes, IsAtEnd};
 
-use codec::bytes::Written;
 use std::io;
 use std::io::Read;
 
@@ -15,7 +14,7 @@ fn read_full<R: Read>(input: &mut R, place: &mut [u8]) -> io::Result<usize>
     ensures end { IfOk result (λ n. n < length place.new → IsAtEnd (R.remaining input.new)) }
 {
     let mut n = 0;
-    for i in 0..place.len() {
+    while n < place.len() {
         let more = input.read(&mut place[n..])?;
         if more == 0 {
             return Ok(n);
@@ -26,11 +25,12 @@ fn read_full<R: Read>(input: &mut R, place: &mut [u8]) -> io::Result<usize>
 }
 
 fn main(rt: HostRuntime) -> io::Result<()> {
+    // An array and a count, no Vec: `read_full` promises where in it the bytes stand.
     let mut datagram = [0u8; 4096];
     let n = read_full(&mut rt.reader(), &mut datagram)?;
     let mut out = [0u8; 65536];
     match listing::lines(&datagram[..n], &mut out) {
-        Written::Bytes(k) => rt.write_all(&out[..k]),
-        Written::Refused(_) => rt.write_all(b"refused 13\n"),
+        Ok(k) => rt.write_all(&out[..k]),
+        Err(why) => println!(rt; "refused {}", why.number()),
     }
 }

@@ -2,10 +2,9 @@
 // tools/datagrams.py makes the input and, by its own reading of the layouts, what is to be printed.
 #![tactic(auto)]
 
-ghost use Rattle.std.specs.Prelude.{◌<◌, IfOk, IsTrue};
+ghost use Rattle.std.specs.Prelude.{◌≤◌, IfOk, IsTrue};
 ghost use Rattle.std.specs.Io.KnownBytes.{Consumes};
 
-use codec::bytes::Written;
 use std::io;
 use std::io::{ErrorKind, Read};
 
@@ -17,27 +16,21 @@ const ROOM: usize = 70000;
 // Room for its lines: a submessage has 4 bytes at least, and its line 22 at most.
 const LINES: usize = 400000;
 
-// The length that leads a datagram, and no more than there is room for.
-fn length_of(lead: &[u8; 4]) -> usize {
-    let n = wide(lead[0]) + 256 * wide(lead[1]) + 65536 * wide(lead[2]);
-    if n < ROOM { n } else { ROOM }
-}
-
-fn wide(x: u8) -> usize
-    ensures { result < 256 }
+// The length that leads a datagram, of which three bytes count, and no more than there is room for.
+fn length_of(lead: [u8; 4]) -> usize
+    ensures { result ≤ ROOM }
 {
-    x as usize
+    let [a, b, c, _] = lead;
+    let n = u32::from_le_bytes([a, b, c, 0]);
+    (n as usize).min(ROOM)
 }
 
-// Prints the lines of the first `n` bytes.
-fn show(rt: &impl Print, datagram: &[u8], n: usize, out: &mut [u8]) -> io::Result<()> {
-    if n <= datagram.len() {
-        match listing::lines(&datagram[..n], out) {
-            Written::Bytes(k) => rt.write_all(&out[..k])?,
-            Written::Refused(_) => rt.write_all(b"refused 13\n")?,
-        };
+// Prints the lines of a datagram.
+fn show(rt: &impl Print, datagram: &[u8], out: &mut [u8]) -> io::Result<()> {
+    match listing::lines(datagram, out) {
+        Ok(k) => rt.write_all(&out[..k]),
+        Err(why) => println!(rt; "refused {}", why.number()),
     }
-    Ok(())
 }
 
 // Fills `place` with what is read; false where the input ends before.
@@ -46,11 +39,8 @@ fn read_full<R: Read>(input: &mut R, place: &mut [u8]) -> io::Result<bool>
 {
     match input.read_exact(place) {
         Ok(()) => Ok(true),
-        Err(e) => if e.kind() == ErrorKind::UnexpectedEof {
-            Ok(false)
-        } else {
-            Err(e)
-        },
+        Err(e) if e.kind() == ErrorKind::UnexpectedEof => Ok(false),
+        Err(e) => Err(e),
     }
 }
 
@@ -58,41 +48,29 @@ fn read_full<R: Read>(input: &mut R, place: &mut [u8]) -> io::Result<bool>
 fn one(
     rt: &impl Print,
     input: &mut impl Read,
-    datagram: &mut [u8],
+    room: &mut [u8; ROOM],
     out: &mut [u8],
 ) -> io::Result<bool> {
     let mut lead = [0u8; 4];
     if !read_full(input, &mut lead)? {
         return Ok(false);
     }
-    let n = length_of(&lead);
-    if datagram.len() < n {
+    let datagram = &mut room[..length_of(lead)];
+    if !read_full(input, datagram)? {
         return Ok(false);
     }
-    if !read_full(input, &mut datagram[..n])? {
-        return Ok(false);
-    }
-    show(rt, datagram, n, out)?;
+    show(rt, datagram, out)?;
     Ok(true)
 }
 
-// Each datagram of the file.
-fn all(
-    rt: &impl Print,
-    input: &mut impl Read,
-    datagram: &mut [u8],
-    out: &mut [u8],
-) -> io::Result<()> {
+fn main(rt: HostRuntime) -> io::Result<()> {
+    let mut input = rt.reader();
+    let mut room = [0u8; ROOM];
+    let mut out = [0u8; LINES];
     for _ in 0..MOST {
-        if !one(rt, input, datagram, out)? {
-            return Ok(());
+        if !one(&rt, &mut input, &mut room, &mut out)? {
+            break;
         }
     }
     Ok(())
-}
-
-fn main(rt: HostRuntime) -> io::Result<()> {
-    let mut datagram = [0u8; ROOM];
-    let mut out = [0u8; LINES];
-    all(&rt, &mut rt.reader(), &mut datagram, &mut out)
 }

@@ -11,7 +11,7 @@ use lib.Dec.{eqb, leb, ltb}
 use Rattle.hours.specs.Windows.{Window, holds, is_open, behind_all, of_day, fits, all_fit_behind}
 use Rattle.hours.specs.Week.{is_minute}
 use Rattle.hours.specs.Promises.{HeldBy}
-use Rattle.hours.proofs.windows.Laws.{false_true}
+use Rattle.std.proofs.lemmas.Bool.{false≢true}
 
 -- ---- of one window
 
@@ -26,8 +26,8 @@ module _ (w : Window) (day minute : ℕ) where
     where
       go : (x y : Bool) → eqb w.day day ≡ x → leb w.from minute ≡ y → cond x (cond y (ltb minute w.to) false) false ≡ true → Holds w day minute
       go true true p q r = record { its_day = eqb-true w.day day p; begun = leb-true w.from minute q; not_over_lem = ltb-true minute w.to r }
-      go true false p q r = absurd (false_true r)
-      go false y p q r = absurd (false_true r)
+      go true false p q r = absurd (false≢true r)
+      go false y p q r = absurd (false≢true r)
 
   pub so_holds : Holds w day minute → holds w day minute ≡ true
   so_holds h = rw (eq-eqb w.day day h.its_day, le-leb w.from minute h.begun) (lt-ltb minute w.to h.not_over_lem)
@@ -36,7 +36,7 @@ module _ (w : Window) (day minute : ℕ) where
 
 pub open_held : (ws : List Window) (day minute : ℕ) → is_open ws day minute ≡ true → HeldBy ws day minute
 unfolding is_open
-open_held [] day minute e = absurd (false_true e)
+open_held [] day minute e = absurd (false≢true e)
 open_held (w ∷ ws) day minute e = go (holds w day minute) refl e (λ f. open_held ws day minute f)
   where
     go : (b : Bool) → holds w day minute ≡ b → cond b true (is_open ws day minute) ≡ true → (is_open ws day minute ≡ true → HeldBy ws day minute) → HeldBy (w ∷ ws) day minute
@@ -78,14 +78,14 @@ fits_placed before w e = go (ltb 6 w.day) (leb w.to w.from) (ltb 1440 w.to) refl
   where
     go : (x y z : Bool) → ltb 6 w.day ≡ x → leb w.to w.from ≡ y → ltb 1440 w.to ≡ z
         → cond x false (cond y false (cond z false (cond (behind_all before w.day w.from) (ltb (of_day before w.day) 8) false))) ≡ true → Placed w
-    go true y z p q r e = absurd (false_true e)
-    go false true z p q r e = absurd (false_true e)
-    go false false true p q r e = absurd (false_true e)
+    go true y z p q r e = absurd (false≢true e)
+    go false true z p q r e = absurd (false≢true e)
+    go false false true p q r e = absurd (false≢true e)
     go false false false p q r e = record { of_week = ltb-false 6 w.day p; some_minute = leb-false w.to w.from q; of_day_lem = ltb-false 1440 w.to r }
 
 both : (a b : Bool) → cond a b false ≡ true → (a ≡ true) × (b ≡ true)
 both true b e = (refl, e)
-both false b e = absurd (false_true e)
+both false b e = absurd (false≢true e)
 
 pub first_placed : (before : List Window) (w : Window) (ws : List Window) → all_fit_behind before (w ∷ ws) ≡ true → Placed w × (all_fit_behind (before ++ (w ∷ [])) ws ≡ true)
 unfolding all_fit_behind
@@ -107,5 +107,5 @@ none_outside before (w ∷ ws) day minute e o =
     go (holds w day minute) refl (none_outside (before ++ (w ∷ [])) ws day minute s.1 o)
   where
     go : (b : Bool) → holds w day minute ≡ b → is_open ws day minute ≡ false → cond b true (is_open ws day minute) ≡ false
-    go true h r = absurd (false_true (sym o ∙ placed_holds w day minute (first_placed before w ws e).0 h))
+    go true h r = absurd (false≢true (sym o ∙ placed_holds w day minute (first_placed before w ws e).0 h))
     go false h r = r

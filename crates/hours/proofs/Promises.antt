@@ -1,8 +1,8 @@
 -- The promises of `specs/Promises.antt`, proved.
+use Rattle.std.specs.Prelude.{None}
 use Prim.Native.Nat.{ℕ, ◌≤◌}
 use mathlib.Core.Path.{◌≡◌, refl, sym, ◌∙◌, subst}
 use mathlib.Core.Bool.{true, false}
-use mathlib.Core.Option.{none}
 use mathlib.Core.List.Memᴰ
 use mathlib.Core.List.{List, [], ◌∷◌}
 use native.Mathlib.Omega.{arith}
@@ -10,7 +10,7 @@ use lib.ListN.{length}
 use Rattle.hours.specs.Windows.{Window, week_minutes, is_open, all_fit}
 use Rattle.hours.specs.Week.{is_minute, kept_hours, open_in, first_open}
 use Rattle.hours.specs.Promises.{OpenExactly, KeepsWindows, FirstOpenRight, NeverExactly}
-use Rattle.hours.proofs.windows.Laws.{false_true}
+use Rattle.std.proofs.lemmas.Bool.{false≢true}
 use Rattle.hours.proofs.week.Laws.{is_minute_lem}
 use Rattle.hours.proofs.Held.{open_held, held_open, first_placed}
 use Rattle.hours.proofs.Kept.{keeps}
@@ -33,13 +33,13 @@ first_open_right opens day minute u e =
     record { steps = f.steps; within_week = f.soon; there = f.there; is_it = f.it; closed_before = f.closed }
 
 -- the first window's first minute is one that the search comes to
-found : (w : Window) (ws : List Window) (day minute : ℕ) → all_fit (w ∷ ws) ≡ true → is_minute day minute ≡ true → first_open (is_open (w ∷ ws)) day minute ≡ none → ⊥
+found : (w : Window) (ws : List Window) (day minute : ℕ) → all_fit (w ∷ ws) ≡ true → is_minute day minute ≡ true → first_open (is_open (w ∷ ws)) day minute ≡ None → ⊥
 found w ws day minute f m e =
     let p = (first_placed [] w ws f).0 in
     let r = reached (day, minute) (w.day, w.from) (is_minute_lem day minute m) (p.of_week, omega (arith, p.some_minute, p.of_day_lem)) in
     let shut = none_of (is_open (w ∷ ws)) (day, minute) week_minutes e r.steps r.within in
     let open' = held_open (w ∷ ws) w.day w.from (record { window = w; among = Memᴰ.head refl; of_that_day = refl; begun = omega arith; not_over = p.some_minute }) in
-    false_true (sym (subst (λ (t : ℕ × ℕ). is_open (w ∷ ws) t.0 t.1 ≡ false) r.there shut) ∙ open')
+    false≢true (sym (subst (λ (t : ℕ × ℕ). is_open (w ∷ ws) t.0 t.1 ≡ false) r.there shut) ∙ open')
 
 pub never_exactly : NeverExactly
 unfolding is_open

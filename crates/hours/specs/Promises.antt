@@ -1,6 +1,5 @@
 -- What is promised of quiet hours, as statements; `proofs/Promises.antt` proves each.
-use Rattle.std.specs.Prelude.{ℕ, zero, suc, ◌≤◌, ◌<◌, ◌≡◌, Bool, true, false, length}
-use Rattle.std.proofs.Math.Option.{Option, none, some}
+use Rattle.std.specs.Prelude.{ℕ, zero, suc, ◌≤◌, ◌<◌, ◌≡◌, Bool, true, false, length, Option, None, Some}
 use mathlib.Core.List.{List, [], Memᴰ}
 use Rattle.hours.specs.Windows.{Window, week_minutes, is_open, all_fit}
 use Rattle.hours.specs.Week.{is_minute, kept_hours, open_in, minute_after, first_open}
@@ -37,10 +36,10 @@ pub record First (opens : ℕ → ℕ → Bool) (t u : ℕ × ℕ) : Type 0 wher
   pub closed_before : (j : ℕ) → j < steps → opens (later j t).0 (later j t).1 ≡ false
 
 abbrev pub FirstOpenRight : Type 0
-FirstOpenRight = (opens : ℕ → ℕ → Bool) (day minute : ℕ) (u : ℕ × ℕ) → first_open opens day minute ≡ some u → First opens (day, minute) u
+FirstOpenRight = (opens : ℕ → ℕ → Bool) (day minute : ℕ) (u : ℕ × ℕ) → first_open opens day minute ≡ Some u → First opens (day, minute) u
 
 -- "none exactly if no day has a window", of windows that set-up takes
 abbrev pub NeverExactly : Type 0
 NeverExactly =
     (ws : List Window) (day minute : ℕ) → all_fit ws ≡ true → is_minute day minute ≡ true
-    → (first_open (is_open ws) day minute ≡ none → ws ≡ []) × (ws ≡ [] → first_open (is_open ws) day minute ≡ none)
+    → (first_open (is_open ws) day minute ≡ None → ws ≡ []) × (ws ≡ [] → first_open (is_open ws) day minute ≡ None)

@@ -1,10 +1,8 @@
 -- Document 02, W8: the week's minutes, as they are kept between calls, and the first open one.
-use Rattle.std.specs.Prelude.{ℕ, zero, suc, ◌+◌, ◌*◌, ◌/◌, ◌%◌, Bool, true, false, cond, not, List, [], ◌∷◌, ◌++◌, eqb, leb, ltb, get_or, drop, length}
-use Rattle.std.proofs.Math.Option.{Option, none, some}
+use Rattle.std.specs.Prelude.{ℕ, zero, suc, ◌+◌, ◌*◌, ◌/◌, ◌%◌, Bool, true, false, cond, not, List, [], ◌∷◌, ◌++◌, eqb, leb, ltb, get_or, drop, length, Err, None, Ok, Option, Result, Some}
 use Rattle.codec.specs.declared.refusals.Refusal.TheVariants.{OverLimit, NoSuchMinute}
 use Rattle.hours.specs.Windows.{Window, week_minutes, is_open}
-use Rattle.hours.specs.declared.week.FirstOpen.{FirstOpen}
-use Rattle.hours.specs.declared.week.FirstOpen.TheVariants.{At, Never, Refused}
+use Rattle.codec.specs.declared.refusals.Refusal.{Refusal}
 
 -- 20: "weekday over 6 or minute over 1,439"
 abbrev pub is_minute : ℕ → ℕ → Bool
@@ -36,19 +34,19 @@ minute_after t = cond (eqb t.1 1439) (cond (eqb t.0 6) 0 (t.0 + 1), 0) (t.0, t.1
 
 -- of n minutes from one on
 unfoldable pub first_open_from : (ℕ → ℕ → Bool) → ℕ × ℕ → ℕ → Option (ℕ × ℕ)
-first_open_from opens t zero = none
-first_open_from opens t (suc n) = cond (opens t.0 t.1) (some t) (first_open_from opens (minute_after t) n)
+first_open_from opens t zero = None
+first_open_from opens t (suc n) = cond (opens t.0 t.1) (Some t) (first_open_from opens (minute_after t) n)
 
 abbrev pub first_open : (ℕ → ℕ → Bool) → ℕ → ℕ → Option (ℕ × ℕ)
 first_open opens day minute = first_open_from opens (day, minute) week_minutes
 
-abbrev pub found_as : Option (ℕ × ℕ) → FirstOpen
-found_as none = Never
-found_as (some t) = At t.0 t.1
+abbrev pub found_as : Option (ℕ × ℕ) → Result (Option (ℕ × ℕ)) Refusal
+found_as None = Ok None
+found_as (Some t) = Ok (Some t)
 
 -- 16 of the store, then "20 for a bad question"
-unfoldable pub first_open_of : List ℕ → ℕ → ℕ → FirstOpen
+unfoldable pub first_open_of : List ℕ → ℕ → ℕ → Result (Option (ℕ × ℕ)) Refusal
 first_open_of hours day minute =
     cond (leb week_minutes (length hours))
-    (cond (is_minute day minute) (found_as (first_open (open_in hours) day minute)) (Refused NoSuchMinute))
-    (Refused OverLimit)
+    (cond (is_minute day minute) (found_as (first_open (open_in hours) day minute)) (Err NoSuchMinute))
+    (Err OverLimit)

@@ -1,8 +1,7 @@
 -- Document 02, W8: the windows that set-up takes, and which minutes they open.
-use Rattle.std.specs.Prelude.{ℕ, ◌+◌, ◌*◌, Bool, true, false, cond, List, [], ◌∷◌, ◌++◌, map, eqb, leb, ltb, get_or}
+use Rattle.std.specs.Prelude.{ℕ, ◌+◌, ◌*◌, Bool, true, false, cond, List, [], ◌∷◌, ◌++◌, map, eqb, leb, ltb, get_or, Err, Ok, Result}
 use Rattle.codec.specs.declared.refusals.Refusal.TheVariants.{OverLimit, WindowFault}
-use Rattle.hours.specs.declared.windows.Windows.{Windows}
-use Rattle.hours.specs.declared.windows.Windows.TheVariants.{Fit, Refused}
+use Rattle.codec.specs.declared.refusals.Refusal.{Refusal}
 
 -- "Each weekday, 0 to 6, has up to 8 windows in which striking is open, from and to in minutes of the day, 0 to 1,440."
 pub record Window : Type 0 where
@@ -59,5 +58,5 @@ abbrev pub all_fit : List Window → Bool
 all_fit ws = all_fit_behind [] ws
 
 -- "19, .. at set-up after 16": 16 here is of the store for the week's minutes, which has so many bytes
-unfoldable pub checked_of : ℕ → List Window → Windows
-checked_of bytes ws = cond (leb week_minutes bytes) (cond (all_fit ws) Fit (Refused WindowFault)) (Refused OverLimit)
+unfoldable pub checked_of : ℕ → List Window → Result (Unit {0}) Refusal
+checked_of bytes ws = cond (leb week_minutes bytes) (cond (all_fit ws) (Ok tt) (Err WindowFault)) (Err OverLimit)

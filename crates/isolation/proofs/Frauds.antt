@@ -2,11 +2,11 @@
 -- is not live; hides bytes in a STATUS that nobody asked for, or in one that was; answers nobody; gives two clients one session; takes
 -- one session's answer for another's; drops what comes out of turn; has a session which no CREATE_CLIENT opened; copies a session into
 -- another. And a call whose handle is not the session's own.
+use Rattle.std.specs.Prelude.{Option, None, Some}
 use mathlib.Core.Path.{◌≡◌, refl, sym, ap, ◌∙◌}
 use Prim.Native.Nat.{ℕ}
 use native.Mathlib.Omega.{arith}
 use mathlib.Core.Bool.{true≢false}
-use mathlib.Core.Option.{Option, none, some}
 use mathlib.Core.List.Memᴰ
 use mathlib.Core.List.{List, [], ◌∷◌, ◌++◌}
 use Rattle.isolation.specs.Rules.{Rules, Host, datagram, answer, removal, sweep, other, Out, opened, reply, Result, refused, ran}
@@ -34,8 +34,8 @@ open_8 = to 0 (client 8 100 ∷ [])
 -- ---- every call touches every session
 
 abbrev touched : Option Local → Option Local
-touched none = none
-touched (some l) = some (record { id = l.id; key = l.key; activity = 999; objects = l.objects })
+touched None = None
+touched (Some l) = Some (record { id = l.id; key = l.key; activity = 999; objects = l.objects })
 
 abbrev touching : Agent R
 touching = spoilt (λ r. (record { tables = record { next = r.0.tables.next; at = λ i. touched (r.0.tables.at i) }; wait = r.0.wait }, r.1))
@@ -45,8 +45,8 @@ unfolding run step ids live free chosen
 opener = opened_by touching [] open_7 [] (record { header = 0; subs = client 7 100 ∷ [] }) (7, 100) [] 1 refl refl refl
 
 abbrev activity : Option Local → ℕ
-activity none = 0
-activity (some l) = l.activity
+activity None = 0
+activity (Some l) = l.activity
 
 touching_refuted : Isolated R touching opens₁ → ⊥
 unfolding opener opened_by run step ids live free chosen
@@ -72,7 +72,7 @@ babbling_refuted isolated = cons_not_nil [] [] (isolated.silent (removal 1, 0) 3
 
 abbrev with_status : Result R → Result R
 with_status (refused n) = refused n
-with_status (ran os c) = ran (opened none (7 ∷ []) ∷ os) c
+with_status (ran os c) = ran (opened None (7 ∷ []) ∷ os) c
 
 abbrev hiding : Agent R
 hiding = spoilt (λ r. (r.0, with_status r.1))
@@ -106,7 +106,7 @@ forging_refuted isolated = let e : ◌≡◌ {A = ℕ} 7 1 = ap first_byte (isol
 -- ---- no call does anything
 
 abbrev deaf : Agent R
-deaf = record { State = St; Event = Event; empty = A.empty; table = A.table; step = λ st e. (st, ran [] none); host_call = A.host_call }
+deaf = record { State = St; Event = Event; empty = A.empty; table = A.table; step = λ st e. (st, ran [] None); host_call = A.host_call }
 
 deaf_refuted : Isolated R deaf [] → ⊥
 deaf_refuted isolated = none_some (sym (isolated.greets open_7))
@@ -115,7 +115,7 @@ deaf_refuted isolated = none_some (sym (isolated.greets open_7))
 
 abbrev as_one : List (Out R) → List (Out R)
 as_one [] = []
-as_one (opened x r ∷ os) = opened (some 1) (1 ∷ 0 ∷ []) ∷ as_one os
+as_one (opened x r ∷ os) = opened (Some 1) (1 ∷ 0 ∷ []) ∷ as_one os
 as_one (reply h r ∷ os) = reply h r ∷ as_one os
 
 abbrev with_id_1 : Result R → Result R
@@ -138,7 +138,7 @@ sharing_at_once_refuted isolated = let e : ◌≡◌ {A = ℕ} 1 0 = (isolated.f
 -- ---- a datagram is begun while a call is open, and its own call has the same tag: session 2 gets the answer to session 1's call
 
 abbrev crossed : St → Host R → St
-crossed st (datagram d) = record { tables = st.tables; wait = none }
+crossed st (datagram d) = record { tables = st.tables; wait = None }
 crossed st (answer t a) = st
 crossed st (removal i) = st
 crossed st (sweep now) = st
@@ -157,12 +157,12 @@ crossing_refuted isolated = none_some (sym (isolated.own_tag (create_in 2) (reco
 -- ---- a datagram that comes while a call is open is dropped, and not refused
 
 abbrev dropped : St → Option (Wait R (D 1000 3 3)) → Host R → St × Result R → St × Result R
-dropped st none e r = r
-dropped st (some w) (datagram d) r = (st, ran [] none)
-dropped st (some w) (answer t a) r = r
-dropped st (some w) (removal i) r = r
-dropped st (some w) (sweep now) r = r
-dropped st (some w) other r = r
+dropped st None e r = r
+dropped st (Some w) (datagram d) r = (st, ran [] None)
+dropped st (Some w) (answer t a) r = r
+dropped st (Some w) (removal i) r = r
+dropped st (Some w) (sweep now) r = r
+dropped st (Some w) other r = r
 
 abbrev dropping : Agent R
 dropping = record { State = St; Event = Event; empty = A.empty; table = A.table; step = λ st e. dropped st st.wait e.0 (A.step st e); host_call = A.host_call }
@@ -178,7 +178,7 @@ dropping_refuted isolated = true≢false (sym (isolated.in_turn caller))
 -- ---- every call leaves a session with id 3
 
 abbrev haunted : Agent R
-haunted = spoilt (λ r. (record { tables = record { next = r.0.tables.next; at = put R (D 1000 3 3) 3 (some (R.start 3 (0, 0))) r.0.tables.at }; wait = r.0.wait }, r.1))
+haunted = spoilt (λ r. (record { tables = record { next = r.0.tables.next; at = put R (D 1000 3 3) 3 (Some (R.start 3 (0, 0))) r.0.tables.at }; wait = r.0.wait }, r.1))
 
 abbrev head : Event → List Event → Event
 head e [] = e
@@ -200,7 +200,7 @@ none_opened : Session R haunted (quiet ∷ []) → ⊥
 none_opened S = go S.before S.whole S.brings
   where
     go : (before : List Event) → quiet ∷ [] ≡ before ++ S.call ∷ S.later
-        → (works_on R (reached R haunted (set_up R haunted) before).open_calls S.call.0).0 ≡ some S.message → ⊥
+        → (works_on R (reached R haunted (set_up R haunted) before).open_calls S.call.0).0 ≡ Some S.message → ⊥
     go [] e b = let c : S.call ≡ quiet = sym (ap (head quiet) e) in none_some {b = S.message} (rw c at b)
     go (x ∷ xs) e b = not_empty xs S.call S.later (ap tail e)
 
@@ -215,7 +215,7 @@ copied r (datagram d) = r
 copied r (answer t a) = r
 copied r (removal i) = r
 copied r (sweep now) = r
-copied r other = (record { tables = record { next = r.0.tables.next; at = put R (D 1000 3 3) 2 (r.0.tables.at 1) r.0.tables.at }; wait = r.0.wait }, ran [] none)
+copied r other = (record { tables = record { next = r.0.tables.next; at = put R (D 1000 3 3) 2 (r.0.tables.at 1) r.0.tables.at }; wait = r.0.wait }, ran [] None)
 
 abbrev copying : Agent R
 copying = record { State = St; Event = Event; empty = A.empty; table = A.table; step = λ st e. copied (A.step st e) e.0; host_call = A.host_call }
@@ -225,8 +225,8 @@ unfolding run step ids live free chosen
 victim = opened_by copying opens₁ open_8 ((other, 0) ∷ []) (record { header = 0; subs = client 8 100 ∷ [] }) (8, 100) [] 2 refl refl refl
 
 abbrev key : Option Local → ℕ
-key none = 0
-key (some l) = l.key
+key None = 0
+key (Some l) = l.key
 
 copying_refuted : Isolated R copying (opens₁ ++ (open_8 ∷ (other, 0) ∷ [])) → ⊥
 unfolding victim opened_by run step ids live free chosen

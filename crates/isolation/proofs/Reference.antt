@@ -1,8 +1,8 @@
 -- A proof device: the agent of document 01 over any rules, on a table of sessions by id. It has no claim to be believed of itself:
 -- `Refine` hands term 3 on from it to an agent that goes in step with it, and that refuses what it likes besides (13, 14, 16, ..).
+use Rattle.std.specs.Prelude.{Option, None, Some}
 use Prim.Native.Nat.{ℕ, zero, suc, ◌+◌}
 use mathlib.Core.Bool.{Bool, cond}
-use mathlib.Core.Option.{Option, none, some}
 use mathlib.Core.List.{List, [], ◌∷◌, ◌++◌, map}
 use lib.Dec.{eqb}
 use Rattle.isolation.specs.Rules.{Bytes, Outcome, done, calls, Sub, opens, names, Message, Rules, Host, datagram, answer, removal, sweep, other, Out, opened, reply, Asked, Result, refused, ran}
@@ -47,8 +47,8 @@ module _ (R : Rules) (D : Admission R) where
   ids i (suc n) = i ∷ ids (suc i) n
 
   abbrev pub here : Option Local → List Local
-  here none = []
-  here (some l) = l ∷ []
+  here None = []
+  here (Some l) = l ∷ []
 
   -- the live sessions among ids
   unfoldable pub live : (ℕ → Option Local) → List ℕ → List Local
@@ -65,22 +65,22 @@ module _ (R : Rules) (D : Admission R) where
 
   -- the first id that is not live, of n from i on
   unfoldable pub free : ℕ → ℕ → (ℕ → Option Local) → Option ℕ
-  free zero i f = none
-  free (suc n) i f = elim (f i) [ none ↦ some i | some l ↦ free n (after i) f ]
+  free zero i f = None
+  free (suc n) i f = elim (f i) [ None ↦ Some i | Some l ↦ free n (after i) f ]
 
   -- the id that a CREATE_CLIENT gets, if any
   unfoldable pub chosen : Opening → Tables → Option ℕ
-  chosen o t = cond (D.admits (live t.at (ids 1 D.top)) o) (free D.top t.next t.at) none
+  chosen o t = cond (D.admits (live t.at (ids 1 D.top)) o) (free D.top t.next t.at) None
 
   -- "`create_session` takes the next free id, and its pointer goes on from there"
   abbrev pub open_as_lem : Opening → Tables → Option ℕ → Tables
-  open_as_lem o t none = t
-  open_as_lem o t (some i) = record { next = after i; at = put i (some (start i o)) t.at }
+  open_as_lem o t None = t
+  open_as_lem o t (Some i) = record { next = after i; at = put i (Some (start i o)) t.at }
 
   -- ---- running submessages
 
   abbrev pub keep_as : ℕ → Local → Tables → Tables
-  keep_as h l t = record { next = t.next; at = put h (some l) t.at }
+  keep_as h l t = record { next = t.next; at = put h (Some l) t.at }
 
   -- replies, then what is said later
   abbrev pub tell : List (Out R) → Ran → Ran
@@ -90,16 +90,16 @@ module _ (R : Rules) (D : Admission R) where
   abbrev pub act : ℕ → List (Sub Opening In) → Tables → Outcome Local Bytes Call Pending → (Tables → Ran) → Ran
   act h ss t (done l rs) k = tell (map (reply h) rs) (k (keep_as h l t))
   act h ss t (calls l rs c p) k =
-      record { tables = keep_as h l t; wait = some (record { header = h; pending = p; rest = ss }); outs = map (reply h) rs; call = some (record { tag = 0; session = h; call = c }) }
+      record { tables = keep_as h l t; wait = Some (record { header = h; pending = p; rest = ss }); outs = map (reply h) rs; call = Some (record { tag = 0; session = h; call = c }) }
 
   -- the rules f at work on session h; if it is not live nothing happens
   abbrev pub deliver : ℕ → List (Sub Opening In) → Tables → Option Local → (Local → Outcome Local Bytes Call Pending) → (Tables → Ran) → Ran
-  deliver h ss t none f k = k t
-  deliver h ss t (some l) f k = act h ss t (f l) k
+  deliver h ss t None f k = k t
+  deliver h ss t (Some l) f k = act h ss t (f l) k
 
   -- the submessages ss under header h, in order, to the first bridge call or the end
   unfoldable pub run : ℕ → List (Sub Opening In) → Tables → Ran
-  run h [] t = record { tables = t; wait = none; outs = []; call = none }
+  run h [] t = record { tables = t; wait = None; outs = []; call = None }
   run h (opens o ∷ ss) t = tell (opened (chosen o t) (status (chosen o t)) ∷ []) (run h ss (open_as_lem o t (chosen o t)))
   run h (names i ∷ ss) t = deliver h ss t (t.at h) (λ l. handle l i) (λ t'. run h ss t')
 
@@ -120,35 +120,35 @@ module _ (R : Rules) (D : Admission R) where
   settle r = (record { tables = r.tables; wait = r.wait }, ran r.outs r.call)
 
   abbrev pub begin : State → Option (Message Opening In) → Stepped
-  begin st none = refuse st 1
-  begin st (some m) = settle (run m.header m.subs st.tables)
+  begin st None = refuse st 1
+  begin st (Some m) = settle (run m.header m.subs st.tables)
 
   -- a sweep keeps the sessions that are not expired
   abbrev pub stays : ℕ → Option Local → Option Local
-  stays now none = none
-  stays now (some l) = cond (expired l now) none (some l)
+  stays now None = None
+  stays now (Some l) = cond (expired l now) None (Some l)
 
   abbrev pub with_sessions_lem : State → (ℕ → Option Local) → Stepped
-  with_sessions_lem st f = (record { tables = record { next = st.tables.next; at = f }; wait = none }, ran [] none)
+  with_sessions_lem st f = (record { tables = record { next = st.tables.next; at = f }; wait = None }, ran [] None)
 
   -- 15: with no call open everything but an answer is in turn; with one open, only its answer
   abbrev pub stepped : Option Wait → State → Host R → Stepped
-  stepped none st (datagram d) = begin st (parse d)
-  stepped none st (answer t a) = refuse st 15
-  stepped none st (removal i) = with_sessions_lem st (put i none st.tables.at)
-  stepped none st (sweep now) = with_sessions_lem st (λ i. stays now (st.tables.at i))
-  stepped none st other = refuse st 15
-  stepped (some w) st (datagram d) = refuse st 15
-  stepped (some w) st (answer t a) = cond (eqb t 0) (settle (continue w a st.tables)) (refuse st 15)
-  stepped (some w) st (removal i) = refuse st 15
-  stepped (some w) st (sweep now) = refuse st 15
-  stepped (some w) st other = refuse st 15
+  stepped None st (datagram d) = begin st (parse d)
+  stepped None st (answer t a) = refuse st 15
+  stepped None st (removal i) = with_sessions_lem st (put i None st.tables.at)
+  stepped None st (sweep now) = with_sessions_lem st (λ i. stays now (st.tables.at i))
+  stepped None st other = refuse st 15
+  stepped (Some w) st (datagram d) = refuse st 15
+  stepped (Some w) st (answer t a) = cond (eqb t 0) (settle (continue w a st.tables)) (refuse st 15)
+  stepped (Some w) st (removal i) = refuse st 15
+  stepped (Some w) st (sweep now) = refuse st 15
+  stepped (Some w) st other = refuse st 15
 
   unfoldable pub step : State → Host R → Stepped
   step st e = stepped st.wait st e
 
   abbrev pub empty : State
-  empty = record { tables = record { next = 1; at = λ i. none }; wait = none }
+  empty = record { tables = record { next = 1; at = λ i. None }; wait = None }
 
   abbrev pub reference : Agent R
   reference = record { State = State; Event = Host R; empty = empty; table = λ st. st.tables.at; step = step; host_call = λ e. e }

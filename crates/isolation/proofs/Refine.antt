@@ -1,9 +1,9 @@
 -- An agent that goes in step with another has what that has for `Simulates`, and with it term 3 (`Theorem.term3_of`). It may refuse
 -- more than the other, and have calls of its own that concern no session.
+use Rattle.std.specs.Prelude.{Option, None, Some}
 use mathlib.Core.Path.{◌≡◌, refl, sym, ap, ◌∙◌, subst}
 use Prim.Native.Nat.{ℕ}
 use mathlib.Core.Bool.{true}
-use mathlib.Core.Option.{Option, none, some}
 use mathlib.Core.List.{List, []}
 use Rattle.isolation.specs.Rules.{Rules, Host, other, Result, refused, ran}
 use Rattle.isolation.specs.Machine.{Machine, ended, idle, waiting, submessages, still, take, work, table_of}
@@ -16,7 +16,7 @@ module _ (R : Rules) (A B : Agent R) where
   -- one call: refused; or it concerns no session; or it is a call of the other agent, with the same answer
   pub data InStep (abs : A.State → B.State) (st : A.State) (e : A.Event) : Type 0 where
     stops : (n : ℕ) → (A.step st e).1 ≡ refused n → abs (A.step st e).0 ≡ abs st → InStep abs st e
-    aside : A.host_call e ≡ other → (A.step st e).1 ≡ ran [] none → abs (A.step st e).0 ≡ abs st → InStep abs st e
+    aside : A.host_call e ≡ other → (A.step st e).1 ≡ ran [] None → abs (A.step st e).0 ≡ abs st → InStep abs st e
     goes : (e' : B.Event) → A.host_call e ≡ B.host_call e' → abs (A.step st e).0 ≡ (B.step (abs st) e').0 → (A.step st e).1 ≡ (B.step (abs st) e').1 → InStep abs st e
 
   pub record Refines : Type 1 where
@@ -47,7 +47,7 @@ module _ (R : Rules) (A B : Agent R) where
     take_nothing (idle l) = refl
     take_nothing (waiting l p is) = refl
 
-    live : (s : ℕ) (b : OpenCalls R) (st : A.State) (e : A.Event) (l : Local) → Both b st → A.table st s ≡ some l → Follows R A (view s) s b st e (A.step st e)
+    live : (s : ℕ) (b : OpenCalls R) (st : A.State) (e : A.Event) (l : Local) → Both b st → A.table st s ≡ Some l → Follows R A (view s) s b st e (A.step st e)
     live s b st e l (v, u) t = go (in_step st e v)
       where
         behind : (e' : B.Event) → A.host_call e ≡ B.host_call e' → abs (A.step st e).0 ≡ (B.step (abs st) e').0 → (A.step st e).1 ≡ (B.step (abs st) e').1
@@ -73,14 +73,14 @@ module _ (R : Rules) (A B : Agent R) where
             let a = sim.birth b (abs st) e' s o' u in
             record { sees = ap (λ (st : B.State). sim.view s st) z ∙ a.sees; says = rw q a.says; asks = rw q a.asks; turns = a.turns }
 
-    born : (s : ℕ) (b : OpenCalls R) (st : A.State) (e : A.Event) (l : Local) → Both b st → A.table st s ≡ none → A.table (A.step st e).0 s ≡ some l
+    born : (s : ℕ) (b : OpenCalls R) (st : A.State) (e : A.Event) (l : Local) → Both b st → A.table st s ≡ None → A.table (A.step st e).0 s ≡ Some l
         → Opened R s (works_on R b (A.host_call e)).0 (A.step st e).1
     born s b st e l (v, u) t y = go (in_step st e v)
       where
-        was : B.table (abs st) s ≡ none
+        was : B.table (abs st) s ≡ None
         was = sym (abs_table s st) ∙ t
 
-        is : B.table (abs (A.step st e).0) s ≡ some l
+        is : B.table (abs (A.step st e).0) s ≡ Some l
         is = sym (abs_table s (A.step st e).0) ∙ y
 
         go : InStep abs st e → Opened R s (works_on R b (A.host_call e)).0 (A.step st e).1
@@ -88,7 +88,7 @@ module _ (R : Rules) (A B : Agent R) where
         go (aside m q z) = absurd (none_some (sym was ∙ (rw z at is)))
         go (goes e' m z q) = rw (m, q) (sim.born s b (abs st) e' l u was (rw z at is))
 
-    silent : (s : ℕ) (b : OpenCalls R) (st : A.State) (e : A.Event) → Both b st → A.table (A.step st e).0 s ≡ none → Silent R s (A.step st e).1
+    silent : (s : ℕ) (b : OpenCalls R) (st : A.State) (e : A.Event) → Both b st → A.table (A.step st e).0 s ≡ None → Silent R s (A.step st e).1
     silent s b st e (v, u) y = go (in_step st e v)
       where
         go : InStep abs st e → Silent R s (A.step st e).1

@@ -1,9 +1,9 @@
 -- The reference agent's runs, seen by one session: a run moves it as the machine moves, opens no live id, and passes over the
 -- CREATE_CLIENTs that it answers.
+use Rattle.std.specs.Prelude.{Option, None, Some}
 use mathlib.Core.Path.{◌≡◌, refl, sym, ap, ◌∙◌, subst}
 use Prim.Native.Nat.{ℕ, zero, suc}
 use mathlib.Core.Bool.{Bool, true, false, cond, true≢false}
-use mathlib.Core.Option.{Option, none, some}
 use mathlib.Core.List.{List, [], ◌∷◌, ◌++◌, map}
 use lib.Dec.{eqb, T, eqb→eq, eqb_refl}
 use Rattle.isolation.specs.Rules.{Bytes, Outcome, done, calls, Sub, opens, names, Message, Rules, Out, opened, reply, Asked, ran}
@@ -37,12 +37,12 @@ module _ (R : Rules) (D : Admission R) where
   -- ---- what session s gets
 
   abbrev pub call_for : ℕ → Option (Asked R) → List Call
-  call_for s none = []
-  call_for s (some a) = cond (eqb a.session s) (a.call ∷ []) []
+  call_for s None = []
+  call_for s (Some a) = cond (eqb a.session s) (a.call ∷ []) []
 
   pub calls_is : (s : ℕ) (os : List (Out R)) (c : Option (Asked R)) → calls_of R s (ran os c) ≡ call_for s c
-  calls_is s os none = refl
-  calls_is s os (some a) = refl
+  calls_is s os None = refl
+  calls_is s os (Some a) = refl
 
   replies_mine : (s : ℕ) (rs : List Bytes) (os : List (Out R)) → replies_of R s (map (reply s) rs ++ os) ≡ rs ++ replies_of R s os
   replies_mine s [] os = refl
@@ -64,9 +64,9 @@ module _ (R : Rules) (D : Admission R) where
 
   -- what the agent has of session s
   abbrev pub seen : ℕ → Option Local → Option (Wait R D) → Machine R
-  seen s none w = ended
-  seen s (some l) none = idle l
-  seen s (some l) (some w) = cond (eqb w.header s) (waiting l w.pending (but_clients R w.rest)) (idle l)
+  seen s None w = ended
+  seen s (Some l) None = idle l
+  seen s (Some l) (Some w) = cond (eqb w.header s) (waiting l w.pending (but_clients R w.rest)) (idle l)
 
   -- a run of the agent is, for session s, a move of the machine
   pub record Match (s : ℕ) (r : Ran R D) (m : Moved R) : Type 0 where
@@ -88,51 +88,51 @@ module _ (R : Rules) (D : Admission R) where
 
   -- ---- an id that is chosen was not live
 
-  free_is : (n i : ℕ) (f : ℕ → Option Local) (s : ℕ) → free R D n i f ≡ some s → f s ≡ none
+  free_is : (n i : ℕ) (f : ℕ → Option Local) (s : ℕ) → free R D n i f ≡ Some s → f s ≡ None
   unfolding free
   free_is zero i f s e = absurd (none_some e)
   free_is (suc n) i f s e = go (f i) refl (λ e'. free_is n (after R D i) f s e')
     where
-      go : (x : Option Local) → f i ≡ x → (free R D n (after R D i) f ≡ some s → f s ≡ none) → f s ≡ none
-      go none p k = let e' : some i ≡ some s = rw (p, free) at e in cc
-      go (some l) p k = k (rw (p, free) at e)
+      go : (x : Option Local) → f i ≡ x → (free R D n (after R D i) f ≡ Some s → f s ≡ None) → f s ≡ None
+      go None p k = let e' : Some i ≡ Some s = rw (p, free) at e in cc
+      go (Some l) p k = k (rw (p, free) at e)
 
-  pub chosen_is : (o : Opening) (t : Tables R D) (s : ℕ) → chosen R D o t ≡ some s → t.at s ≡ none
+  pub chosen_is : (o : Opening) (t : Tables R D) (s : ℕ) → chosen R D o t ≡ Some s → t.at s ≡ None
   unfolding chosen
   chosen_is o t s e = go (D.admits _ o) e
     where
-      go : (b : Bool) → cond b (free R D D.top t.next t.at) none ≡ some s → t.at s ≡ none
+      go : (b : Bool) → cond b (free R D D.top t.next t.at) None ≡ Some s → t.at s ≡ None
       go true p = free_is D.top t.next t.at s p
       go false p = absurd (none_some p)
 
   -- ---- the tables of s, after another is opened or kept
 
-  pub opened_other : (o : Opening) (t : Tables R D) (s : ℕ) (l : Local) → t.at s ≡ some l → (open_as_lem R D o t (chosen R D o t)).at s ≡ some l
+  pub opened_other : (o : Opening) (t : Tables R D) (s : ℕ) (l : Local) → t.at s ≡ Some l → (open_as_lem R D o t (chosen R D o t)).at s ≡ Some l
   opened_other o t s l e = go (chosen R D o t) refl
     where
-      go : (x : Option ℕ) → chosen R D o t ≡ x → (open_as_lem R D o t x).at s ≡ some l
-      go none p = e
-      go (some i) p = new (eqb s i) refl
+      go : (x : Option ℕ) → chosen R D o t ≡ x → (open_as_lem R D o t x).at s ≡ Some l
+      go None p = e
+      go (Some i) p = new (eqb s i) refl
         where
-          new : (b : Bool) → eqb s i ≡ b → cond (eqb s i) (some (start i o)) (t.at s) ≡ some l
+          new : (b : Bool) → eqb s i ≡ b → cond (eqb s i) (Some (start i o)) (t.at s) ≡ Some l
           new true q = absurd (none_some (sym (chosen_is o t s (rw (same s i q) p)) ∙ e))
           new false q = rw q e
 
   -- the session that a CREATE_CLIENT opens is live then
-  now_live : (o : Opening) (t : Tables R D) (s : ℕ) → chosen R D o t ≡ some s → (open_as_lem R D o t (chosen R D o t)).at s ≡ some (start s o)
+  now_live : (o : Opening) (t : Tables R D) (s : ℕ) → chosen R D o t ≡ Some s → (open_as_lem R D o t (chosen R D o t)).at s ≡ Some (start s o)
   now_live o t s p = rw (p, eqb_same)
 
   kept_other : (s h : ℕ) → eqb h s ≡ false → (l : Local) (t : Tables R D) → (keep_as R D h l t).at s ≡ t.at s
   kept_other s h e l t = rw (apart h s e)
 
-  pub kept_mine : (s : ℕ) (l : Local) (t : Tables R D) → (keep_as R D s l t).at s ≡ some l
+  pub kept_mine : (s : ℕ) (l : Local) (t : Tables R D) → (keep_as R D s l t).at s ≡ Some l
   kept_mine s l t = rw eqb_same
 
   -- a live session stays live while another is kept
-  pub kept_live : (s h : ℕ) (l l' : Local) (t : Tables R D) → t.at s ≡ some l → (l'' : Local) × ((keep_as R D h l' t).at s ≡ some l'')
+  pub kept_live : (s h : ℕ) (l l' : Local) (t : Tables R D) → t.at s ≡ Some l → (l'' : Local) × ((keep_as R D h l' t).at s ≡ Some l'')
   kept_live s h l l' t e = go (eqb s h) refl
     where
-      go : (b : Bool) → eqb s h ≡ b → (l'' : Local) × (cond b (some l') (t.at s) ≡ some l'')
+      go : (b : Bool) → eqb s h ≡ b → (l'' : Local) × (cond b (Some l') (t.at s) ≡ Some l'')
       go true p = (l', refl)
       go false p = (l, e)
 
@@ -145,13 +145,13 @@ module _ (R : Rules) (D : Admission R) where
   act_mine s ss t k d (done l rs) = record { sees = (k l).sees; says = replies_mine s rs _ ∙ ap (λ (z : List Bytes). rs ++ z) (k l).says; asks = (k l).asks }
   act_mine s ss t k d (calls l rs c p) = record { sees = rw eqb_same (rw eqb_same); says = replies_mine_all s rs; asks = rw eqb_same }
 
-  deliver_mine : (s h : ℕ) → h ≡ s → (ss : List (Sub Opening In)) (t : Tables R D) (l : Local) → t.at s ≡ some l
+  deliver_mine : (s h : ℕ) → h ≡ s → (ss : List (Sub Opening In)) (t : Tables R D) (l : Local) → t.at s ≡ Some l
       → ((l : Local) → Match s (run R D s ss (keep_as R D s l t)) (work R l (but_clients R ss)))
       → (d : Action R) (f : Local → Outcome Local Bytes Call Pending)
       → Match s (deliver R D h ss t (t.at h) f (λ t'. run R D h ss t')) (on R d (f l) (but_clients R ss) (λ l. work R l (but_clients R ss)))
   deliver_mine s h p ss t l e k d f = rw (p, e) (act_mine s ss t k d (f l))
 
-  run_mine : (s : ℕ) (ss : List (Sub Opening In)) (t : Tables R D) (l : Local) → t.at s ≡ some l → Match s (run R D s ss t) (work R l (but_clients R ss))
+  run_mine : (s : ℕ) (ss : List (Sub Opening In)) (t : Tables R D) (l : Local) → t.at s ≡ Some l → Match s (run R D s ss t) (work R l (but_clients R ss))
   unfolding run
   run_mine s [] t l e = record { sees = rw e; says = refl; asks = refl }
   run_mine s (opens o ∷ ss) t l e =
@@ -160,12 +160,12 @@ module _ (R : Rules) (D : Admission R) where
   run_mine s (names i ∷ ss) t l e = deliver_mine s s refl ss t l e (λ l'. run_mine s ss (keep_as R D s l' t) l' (kept_mine s l' t)) (handles l i) (λ l. handle l i)
 
   -- the rules at work on another session
-  deliver_other : (s h : ℕ) → eqb h s ≡ false → (ss : List (Sub Opening In)) (t : Tables R D) (l : Local) → t.at s ≡ some l
-      → ((t' : Tables R D) → t'.at s ≡ some l → Match s (run R D h ss t') (still R true (idle l)))
+  deliver_other : (s h : ℕ) → eqb h s ≡ false → (ss : List (Sub Opening In)) (t : Tables R D) (l : Local) → t.at s ≡ Some l
+      → ((t' : Tables R D) → t'.at s ≡ Some l → Match s (run R D h ss t') (still R true (idle l)))
       → (x : Option Local) (f : Local → Outcome Local Bytes Call Pending)
       → Match s (deliver R D h ss t x f (λ t'. run R D h ss t')) (still R true (idle l))
-  deliver_other s h d ss t l e k none f = k t e
-  deliver_other s h d ss t l e k (some l₀) f = go (f l₀)
+  deliver_other s h d ss t l e k None f = k t e
+  deliver_other s h d ss t l e k (Some l₀) f = go (f l₀)
     where
       go : (x : Outcome Local Bytes Call Pending) → Match s (act R D h ss t x (λ t'. run R D h ss t')) (still R true (idle l))
       go (done l' rs) =
@@ -173,7 +173,7 @@ module _ (R : Rules) (D : Admission R) where
           record { sees = m.sees; says = replies_other s h d rs _ ∙ m.says; asks = m.asks }
       go (calls l' rs c p) = record { sees = rw (apart h s d, e, d); says = replies_other_all s h d rs; asks = rw d }
 
-  run_other : (s h : ℕ) → eqb h s ≡ false → (ss : List (Sub Opening In)) (t : Tables R D) (l : Local) → t.at s ≡ some l → Match s (run R D h ss t) (still R true (idle l))
+  run_other : (s h : ℕ) → eqb h s ≡ false → (ss : List (Sub Opening In)) (t : Tables R D) (l : Local) → t.at s ≡ Some l → Match s (run R D h ss t) (still R true (idle l))
   unfolding run
   run_other s h d [] t l e = record { sees = rw e; says = refl; asks = refl }
   run_other s h d (opens o ∷ ss) t l e =
@@ -181,7 +181,7 @@ module _ (R : Rules) (D : Admission R) where
       record { sees = m.sees; says = m.says; asks = m.asks }
   run_other s h d (names i ∷ ss) t l e = deliver_other s h d ss t l e (λ t' e'. run_other s h d ss t' l e') (t.at h) (λ l. handle l i)
 
-  pub run_live : (s h : ℕ) (ss : List (Sub Opening In)) (t : Tables R D) (l : Local) → t.at s ≡ some l → Match s (run R D h ss t) (work R l (for_it R s h ss))
+  pub run_live : (s h : ℕ) (ss : List (Sub Opening In)) (t : Tables R D) (l : Local) → t.at s ≡ Some l → Match s (run R D h ss t) (work R l (for_it R s h ss))
   run_live s h ss t l e = go (eqb h s) refl
     where
       go : (b : Bool) → eqb h s ≡ b → Match s (run R D h ss t) (work R l (cond b (but_clients R ss) []))
@@ -189,12 +189,12 @@ module _ (R : Rules) (D : Admission R) where
       go false p = run_other s h p ss t l e
 
   -- the answer to s's own open call, and to another's
-  pub continue_mine : (s : ℕ) (w : Wait R D) (a : Ans) (t : Tables R D) (l : Local) → t.at s ≡ some l → w.header ≡ s
+  pub continue_mine : (s : ℕ) (w : Wait R D) (a : Ans) (t : Tables R D) (l : Local) → t.at s ≡ Some l → w.header ≡ s
       → Match s (continue R D w a t) (on R (resumes l w.pending a) (resume l w.pending a) (but_clients R w.rest) (λ l. work R l (but_clients R w.rest)))
   continue_mine s w a t l e p =
       deliver_mine s w.header p w.rest t l e (λ l'. run_mine s w.rest (keep_as R D s l' t) l' (kept_mine s l' t)) (resumes l w.pending a) (λ l. resume l w.pending a)
 
-  pub continue_other : (s : ℕ) (w : Wait R D) (a : Ans) (t : Tables R D) (l : Local) → t.at s ≡ some l → eqb w.header s ≡ false
+  pub continue_other : (s : ℕ) (w : Wait R D) (a : Ans) (t : Tables R D) (l : Local) → t.at s ≡ Some l → eqb w.header s ≡ false
       → Match s (continue R D w a t) (still R true (idle l))
   continue_other s w a t l e p =
       deliver_other s w.header p w.rest t l e (λ t' e'. run_other s w.header p w.rest t' l e') (t.at w.header) (λ l. resume l w.pending a)
@@ -208,24 +208,24 @@ module _ (R : Rules) (D : Admission R) where
   opening_past zero h (r ∷ rs) os = opening_past zero h rs os
   opening_past (suc j) h (r ∷ rs) os = opening_past (suc j) h rs os
 
-  pub opening_none : (j h : ℕ) (rs : List Bytes) → status_at R j (map (reply h) rs) ≡ none
+  pub opening_none : (j h : ℕ) (rs : List Bytes) → status_at R j (map (reply h) rs) ≡ None
   opening_none zero h [] = refl
   opening_none (suc j) h [] = refl
   opening_none zero h (r ∷ rs) = opening_none zero h rs
   opening_none (suc j) h (r ∷ rs) = opening_none (suc j) h rs
 
   -- no CREATE_CLIENT opens an id that is live: behind the rules at work, and in a run
-  pub deliver_never : (s h : ℕ) (ss : List (Sub Opening In)) (j : ℕ) (t : Tables R D) (l : Local) → t.at s ≡ some l
-      → ((t' : Tables R D) (l : Local) → t'.at s ≡ some l → status_at R j (run R D h ss t').outs ≡ some s → ⊥)
-      → (x : Option Local) (f : Local → Outcome Local Bytes Call Pending) → status_at R j (deliver R D h ss t x f (λ t'. run R D h ss t')).outs ≡ some s → ⊥
-  deliver_never s h ss j t l e k none f q = k t l e q
-  deliver_never s h ss j t l e k (some l₀) f q = go (f l₀) q
+  pub deliver_never : (s h : ℕ) (ss : List (Sub Opening In)) (j : ℕ) (t : Tables R D) (l : Local) → t.at s ≡ Some l
+      → ((t' : Tables R D) (l : Local) → t'.at s ≡ Some l → status_at R j (run R D h ss t').outs ≡ Some s → ⊥)
+      → (x : Option Local) (f : Local → Outcome Local Bytes Call Pending) → status_at R j (deliver R D h ss t x f (λ t'. run R D h ss t')).outs ≡ Some s → ⊥
+  deliver_never s h ss j t l e k None f q = k t l e q
+  deliver_never s h ss j t l e k (Some l₀) f q = go (f l₀) q
     where
-      go : (x : Outcome Local Bytes Call Pending) → status_at R j (act R D h ss t x (λ t'. run R D h ss t')).outs ≡ some s → ⊥
+      go : (x : Outcome Local Bytes Call Pending) → status_at R j (act R D h ss t x (λ t'. run R D h ss t')).outs ≡ Some s → ⊥
       go (done l' rs) q = let (l'', e'') = kept_live s h l l' t e in k (keep_as R D h l' t) l'' e'' (sym (opening_past j h rs _) ∙ q)
       go (calls l' rs c p) q = none_some (sym (opening_none j h rs) ∙ q)
 
-  pub never : (s h : ℕ) (ss : List (Sub Opening In)) (j : ℕ) (t : Tables R D) (l : Local) → t.at s ≡ some l → status_at R j (run R D h ss t).outs ≡ some s → ⊥
+  pub never : (s h : ℕ) (ss : List (Sub Opening In)) (j : ℕ) (t : Tables R D) (l : Local) → t.at s ≡ Some l → status_at R j (run R D h ss t).outs ≡ Some s → ⊥
   unfolding run
   never s h [] j t l e p = none_some p
   never s h (opens o ∷ ss) zero t l e p = none_some (sym (chosen_is o t s p) ∙ e)
@@ -234,17 +234,17 @@ module _ (R : Rules) (D : Admission R) where
 
   -- no id is in two STATUSes of a run
   pub deliver_once : (s h : ℕ) (ss : List (Sub Opening In)) (j k : ℕ) (t : Tables R D)
-      → ((t' : Tables R D) → status_at R j (run R D h ss t').outs ≡ some s → status_at R k (run R D h ss t').outs ≡ some s → k ≡ j)
+      → ((t' : Tables R D) → status_at R j (run R D h ss t').outs ≡ Some s → status_at R k (run R D h ss t').outs ≡ Some s → k ≡ j)
       → (x : Option Local) (f : Local → Outcome Local Bytes Call Pending) → let os = (deliver R D h ss t x f (λ t'. run R D h ss t')).outs in
-      status_at R j os ≡ some s → status_at R k os ≡ some s → k ≡ j
-  deliver_once s h ss j k t once none f p q = once t p q
-  deliver_once s h ss j k t once (some l) f p q = go (f l) p q
+      status_at R j os ≡ Some s → status_at R k os ≡ Some s → k ≡ j
+  deliver_once s h ss j k t once None f p q = once t p q
+  deliver_once s h ss j k t once (Some l) f p q = go (f l) p q
     where
-      go : (x : Outcome Local Bytes Call Pending) → let os = (act R D h ss t x (λ t'. run R D h ss t')).outs in status_at R j os ≡ some s → status_at R k os ≡ some s → k ≡ j
+      go : (x : Outcome Local Bytes Call Pending) → let os = (act R D h ss t x (λ t'. run R D h ss t')).outs in status_at R j os ≡ Some s → status_at R k os ≡ Some s → k ≡ j
       go (done l' rs) p q = once (keep_as R D h l' t) (sym (opening_past j h rs _) ∙ p) (sym (opening_past k h rs _) ∙ q)
       go (calls l' rs c y) p q = absurd (none_some (sym (opening_none j h rs) ∙ p))
 
-  pub run_once : (s h : ℕ) (ss : List (Sub Opening In)) (j k : ℕ) (t : Tables R D) → let os = (run R D h ss t).outs in status_at R j os ≡ some s → status_at R k os ≡ some s → k ≡ j
+  pub run_once : (s h : ℕ) (ss : List (Sub Opening In)) (j k : ℕ) (t : Tables R D) → let os = (run R D h ss t).outs in status_at R j os ≡ Some s → status_at R k os ≡ Some s → k ≡ j
   unfolding run
   run_once s h [] j k t p q = absurd (none_some p)
   run_once s h (opens o ∷ ss) zero zero t p q = refl
@@ -257,18 +257,18 @@ module _ (R : Rules) (D : Admission R) where
 
   -- the rules at work before s is opened in the same call
   pub deliver_birth : (s h : ℕ) (ss : List (Sub Opening In)) (j : ℕ) (t : Tables R D) (m : Moved R)
-      → ((t' : Tables R D) → status_at R j (run R D h ss t').outs ≡ some s → Match s (run R D h ss t') m)
+      → ((t' : Tables R D) → status_at R j (run R D h ss t').outs ≡ Some s → Match s (run R D h ss t') m)
       → (x : Option Local) (f : Local → Outcome Local Bytes Call Pending)
-      → status_at R j (deliver R D h ss t x f (λ t'. run R D h ss t')).outs ≡ some s
+      → status_at R j (deliver R D h ss t x f (λ t'. run R D h ss t')).outs ≡ Some s
       → Match s (deliver R D h ss t x f (λ t'. run R D h ss t')) m
-  deliver_birth s h ss j t m k none f q = k t q
-  deliver_birth s h ss j t m k (some l) f q = acts (f l) q
+  deliver_birth s h ss j t m k None f q = k t q
+  deliver_birth s h ss j t m k (Some l) f q = acts (f l) q
     where
-      acts : (x : Outcome Local Bytes Call Pending) → status_at R j (act R D h ss t x (λ t'. run R D h ss t')).outs ≡ some s
+      acts : (x : Outcome Local Bytes Call Pending) → status_at R j (act R D h ss t x (λ t'. run R D h ss t')).outs ≡ Some s
           → Match s (act R D h ss t x (λ t'. run R D h ss t')) m
       acts (done l' rs) q = apartness (eqb h s) refl
         where
-          q' : status_at R j (run R D h ss (keep_as R D h l' t)).outs ≡ some s
+          q' : status_at R j (run R D h ss (keep_as R D h l' t)).outs ≡ Some s
           q' = sym (opening_past j h rs _) ∙ q
 
           apartness : (b : Bool) → eqb h s ≡ b → Match s (tell R D (map (reply h) rs) (run R D h ss (keep_as R D h l' t))) m
@@ -277,7 +277,7 @@ module _ (R : Rules) (D : Admission R) where
       acts (calls l' rs c p) q = absurd (none_some (sym (opening_none j h rs) ∙ q))
 
   pub run_birth : (s h : ℕ) (ss : List (Sub Opening In)) (j : ℕ) (o : Opening) (behind : List (Sub Opening In)) (t : Tables R D)
-      → client_at R j ss ≡ some (o, behind) → status_at R j (run R D h ss t).outs ≡ some s
+      → client_at R j ss ≡ Some (o, behind) → status_at R j (run R D h ss t).outs ≡ Some s
       → Match s (run R D h ss t) (work R (start s o) (for_it R s h behind))
   unfolding run
   run_birth s h [] j o behind t a q = absurd (none_some q)
@@ -285,8 +285,8 @@ module _ (R : Rules) (D : Admission R) where
       let pair : ◌≡◌ {A = Opening × List (Sub Opening In)} (o₁, ss) (o, behind) = cc in
       let o_is : o₁ ≡ o = ap (λ (x : Opening × List (Sub Opening In)). x.0) pair in
       let ss-is : ss ≡ behind = ap (λ (x : Opening × List (Sub Opening In)). x.1) pair in
-      let m = run_live s h ss (open_as_lem R D o₁ t (some s)) (start s o₁) (rw eqb_same) in
-      let m' : Match s (run R D h ss (open_as_lem R D o₁ t (some s))) (work R (start s o) (for_it R s h behind)) = rw (← o_is, ← ss-is) m in
+      let m = run_live s h ss (open_as_lem R D o₁ t (Some s)) (start s o₁) (rw eqb_same) in
+      let m' : Match s (run R D h ss (open_as_lem R D o₁ t (Some s))) (work R (start s o) (for_it R s h behind)) = rw (← o_is, ← ss-is) m in
       rw q (record { sees = m'.sees; says = m'.says; asks = m'.asks })
   run_birth s h (opens o₁ ∷ ss) (suc j) o behind t a q =
       let m = run_birth s h ss j o behind (open_as_lem R D o₁ t (chosen R D o₁ t)) a q in
@@ -315,49 +315,49 @@ module _ (R : Rules) (D : Admission R) where
 
   -- of a run of ss under header h, from replies os: the call that it leaves open is h's, and what waits behind it
   unfoldable pub Leaves : ℕ → List (Sub Opening In) → List (Out R) → Option (Asked R) → Option (Wait R D) → Type 0
-  Leaves h ss os none none = Unit {0}
-  Leaves h ss os none (some w) = ⊥
-  Leaves h ss os (some a) none = ⊥
-  Leaves h ss os (some a) (some w) = (a.tag ≡ 0) × (w.header ≡ h) × ((j : ℕ) → client_at R j (past R os ss) ≡ client_at R j w.rest)
+  Leaves h ss os None None = Unit {0}
+  Leaves h ss os None (Some w) = ⊥
+  Leaves h ss os (Some a) None = ⊥
+  Leaves h ss os (Some a) (Some w) = (a.tag ≡ 0) × (w.header ≡ h) × ((j : ℕ) → client_at R j (past R os ss) ≡ client_at R j w.rest)
 
   -- the tag of the call is 0
-  pub leaves_tag : (h : ℕ) (ss : List (Sub Opening In)) (os : List (Out R)) (c : Option (Asked R)) (w : Option (Wait R D)) → Leaves h ss os c w → (a : Asked R) → c ≡ some a → a.tag ≡ 0
+  pub leaves_tag : (h : ℕ) (ss : List (Sub Opening In)) (os : List (Out R)) (c : Option (Asked R)) (w : Option (Wait R D)) → Leaves h ss os c w → (a : Asked R) → c ≡ Some a → a.tag ≡ 0
   unfolding Leaves
-  leaves_tag h ss os none w k a e = absurd (none_some e)
-  leaves_tag h ss os (some c) none k a e = absurd k
-  leaves_tag h ss os (some c) (some w) k a e = let z : c ≡ a = cc in rw (← z) k.0
+  leaves_tag h ss os None w k a e = absurd (none_some e)
+  leaves_tag h ss os (Some c) None k a e = absurd k
+  leaves_tag h ss os (Some c) (Some w) k a e = let z : c ≡ a = cc in rw (← z) k.0
 
   -- behind a submessage that is not a CREATE_CLIENT
   leaves_names : (h : ℕ) (i : In) (ss : List (Sub Opening In)) (os : List (Out R)) (c : Option (Asked R)) (w : Option (Wait R D)) → Leaves h ss os c w → Leaves h (names i ∷ ss) os c w
   unfolding Leaves
-  leaves_names h i ss os none none k = tt
-  leaves_names h i ss os none (some w) k = absurd k
-  leaves_names h i ss os (some a) none k = absurd k
-  leaves_names h i ss os (some a) (some w) k = (k.0, k.1, λ j. past_names os i ss j ∙ k.2 j)
+  leaves_names h i ss os None None k = tt
+  leaves_names h i ss os None (Some w) k = absurd k
+  leaves_names h i ss os (Some a) None k = absurd k
+  leaves_names h i ss os (Some a) (Some w) k = (k.0, k.1, λ j. past_names os i ss j ∙ k.2 j)
 
   -- behind replies
   leaves_replies : (h g : ℕ) (rs : List Bytes) (ss : List (Sub Opening In)) (os : List (Out R)) (c : Option (Asked R)) (w : Option (Wait R D)) → Leaves h ss os c w → Leaves h ss (map (reply g) rs ++ os) c w
   unfolding Leaves
-  leaves_replies h g rs ss os none none k = tt
-  leaves_replies h g rs ss os none (some w) k = absurd k
-  leaves_replies h g rs ss os (some a) none k = absurd k
-  leaves_replies h g rs ss os (some a) (some w) k = (k.0, k.1, λ j. rw (past_replies g rs os ss) (k.2 j))
+  leaves_replies h g rs ss os None None k = tt
+  leaves_replies h g rs ss os None (Some w) k = absurd k
+  leaves_replies h g rs ss os (Some a) None k = absurd k
+  leaves_replies h g rs ss os (Some a) (Some w) k = (k.0, k.1, λ j. rw (past_replies g rs os ss) (k.2 j))
 
   -- behind a STATUS
   leaves_opened : (h : ℕ) (o : Opening) (x : Option ℕ) (b : Bytes) (ss : List (Sub Opening In)) (os : List (Out R)) (c : Option (Asked R)) (w : Option (Wait R D)) → Leaves h ss os c w → Leaves h (opens o ∷ ss) (opened x b ∷ os) c w
   unfolding Leaves
-  leaves_opened h o x b ss os none none k = tt
-  leaves_opened h o x b ss os none (some w) k = absurd k
-  leaves_opened h o x b ss os (some a) none k = absurd k
-  leaves_opened h o x b ss os (some a) (some w) k = k
+  leaves_opened h o x b ss os None None k = tt
+  leaves_opened h o x b ss os None (Some w) k = absurd k
+  leaves_opened h o x b ss os (Some a) None k = absurd k
+  leaves_opened h o x b ss os (Some a) (Some w) k = k
 
   pub deliver_leaves : (h : ℕ) (ss : List (Sub Opening In)) (t : Tables R D)
       → ((t' : Tables R D) → Leaves h ss (run R D h ss t').outs (run R D h ss t').call (run R D h ss t').wait)
       → (x : Option Local) (f : Local → Outcome Local Bytes Call Pending)
       → let r = deliver R D h ss t x f (λ t'. run R D h ss t') in Leaves h ss r.outs r.call r.wait
   unfolding Leaves
-  deliver_leaves h ss t k none f = k t
-  deliver_leaves h ss t k (some l) f = go (f l)
+  deliver_leaves h ss t k None f = k t
+  deliver_leaves h ss t k (Some l) f = go (f l)
     where
       go : (x : Outcome Local Bytes Call Pending) → let r = act R D h ss t x (λ t'. run R D h ss t') in Leaves h ss r.outs r.call r.wait
       go (done l' rs) = let r = run R D h ss (keep_as R D h l' t) in leaves_replies h h rs ss r.outs r.call r.wait (k (keep_as R D h l' t))
@@ -385,8 +385,8 @@ module _ (R : Rules) (D : Admission R) where
   behind_same xs ys h j = behind_is j xs ∙ h (suc j) ∙ sym (behind_is j ys)
 
   pub greets_same : (os : List (Out R)) (c : Option (Asked R)) (xs ys : List (Sub Opening In)) → ((j : ℕ) → client_at R j xs ≡ client_at R j ys) → Greets R ys os c → Greets R xs os c
-  greets_same [] none xs ys h g = h 0 ∙ g
-  greets_same [] (some a) xs ys h g = tt
+  greets_same [] None xs ys h g = h 0 ∙ g
+  greets_same [] (Some a) xs ys h g = tt
   greets_same (opened x r ∷ os) c xs ys h g = (g.0, (g.1.0, h 0 ∙ g.1.1), greets_same os c (behind_client R xs) (behind_client R ys) (behind_same xs ys h) g.2)
   greets_same (reply k r ∷ os) c xs ys h g = greets_same os c xs ys h g
 
@@ -394,14 +394,14 @@ module _ (R : Rules) (D : Admission R) where
   greets_replies h [] ss os c g = g
   greets_replies h (r ∷ rs) ss os c g = greets_replies h rs ss os c g
 
-  greets_all : (h : ℕ) (rs : List Bytes) (ss : List (Sub Opening In)) (a : Asked R) → Greets R ss (map (reply h) rs) (some a)
+  greets_all : (h : ℕ) (rs : List Bytes) (ss : List (Sub Opening In)) (a : Asked R) → Greets R ss (map (reply h) rs) (Some a)
   greets_all h [] ss a = tt
   greets_all h (r ∷ rs) ss a = greets_all h rs ss a
 
   pub deliver_greets : (h : ℕ) (ss : List (Sub Opening In)) (t : Tables R D) → ((t' : Tables R D) → let r = run R D h ss t' in Greets R ss r.outs r.call)
       → (x : Option Local) (f : Local → Outcome Local Bytes Call Pending) → let r = deliver R D h ss t x f (λ t'. run R D h ss t') in Greets R ss r.outs r.call
-  deliver_greets h ss t k none f = k t
-  deliver_greets h ss t k (some l) f = go (f l)
+  deliver_greets h ss t k None f = k t
+  deliver_greets h ss t k (Some l) f = go (f l)
     where
       go : (x : Outcome Local Bytes Call Pending) → let r = act R D h ss t x (λ t'. run R D h ss t') in Greets R ss r.outs r.call
       go (done l' rs) = let r = run R D h ss (keep_as R D h l' t) in greets_replies h rs ss r.outs r.call (k (keep_as R D h l' t))

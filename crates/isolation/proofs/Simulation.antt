@@ -1,16 +1,16 @@
 -- A proof device: `Isolated` for every list of calls, from facts about one call of the host.
+use Rattle.std.specs.Prelude.{Option, None, Some}
 use mathlib.Core.Path.{◌≡◌, refl, sym, ap, ◌∙◌, subst}
 use Prim.Native.Nat.{ℕ}
 use native.Mathlib.Omega.{arith}
 use mathlib.Core.Bool.{Bool, true, false, cond, true≢false}
-use mathlib.Core.Option.{Option, none, some}
 use mathlib.Core.List.{List, [], ◌∷◌, ◌++◌}
 use lib.Dec.{eqb}
 use Rattle.isolation.specs.Rules.{Sub, Message, Rules, Host, Result, refused, ran}
 use Rattle.isolation.specs.Machine.{Machine, ended, idle, Feed, submessages, Moved, take, takes, work, Trace, table_of, trace}
 use Rattle.isolation.specs.Claim.{Agent, OpenCalls, works_on, open_after, but_clients, if_names, feed_of, unless_refused, outs_of, replies_of, calls_of, client_at, status_at, subs_of, Greeted, Silent, Fresh, OwnTag, Point, set_up, next, reached, Session, until, agent_trace, of_agent, feeds, fed, Isolated}
 
-pub none_some : {B : Type 0} {b : B} → ◌≡◌ {A = Option B} none (some b) → ⊥
+pub none_some : {B : Type 0} {b : B} → ◌≡◌ {A = Option B} None (Some b) → ⊥
 none_some {B} {b} e = let z : ◌≡◌ {A = ℕ} 0 1 = cc in omega arith
 
 module _ (R : Rules) where
@@ -20,7 +20,7 @@ module _ (R : Rules) where
   abbrev pub for_it : ℕ → ℕ → List (Sub Opening In) → List In
   for_it s h ss = cond (eqb h s) (but_clients R ss) []
 
-  pub for_is : (s h : ℕ) (ss : List (Sub Opening In)) → if_names R s (some (record { header = h; subs = ss })) (λ ss. submessages (but_clients R ss)) ≡ submessages (for_it s h ss)
+  pub for_is : (s h : ℕ) (ss : List (Sub Opening In)) → if_names R s (Some (record { header = h; subs = ss })) (λ ss. submessages (but_clients R ss)) ≡ submessages (for_it s h ss)
   for_is s h ss = go (eqb h s)
     where
       go : (b : Bool) → ◌≡◌ {A = Feed R} (cond b (submessages (but_clients R ss)) (submessages [])) (submessages (cond b (but_clients R ss) []))
@@ -38,9 +38,9 @@ module _ (R : Rules) where
     pub number : ℕ
     pub client : Opening
     pub behind : List (Sub Opening In)
-    pub brings : x ≡ some message
-    pub asks : client_at R number message.subs ≡ some (client, behind)
-    pub granted : status_at R number (outs_of R r) ≡ some s
+    pub brings : x ≡ Some message
+    pub asks : client_at R number message.subs ≡ Some (client, behind)
+    pub granted : status_at R number (outs_of R r) ≡ Some s
 
   module _ (A : Agent R) where
     open A use {State, Event, empty, table, step, host_call}
@@ -59,20 +59,20 @@ module _ (R : Rules) where
 
     pub record Simulates : Type 1 where
       pub Inv : OpenCalls R → State → Type 0
-      pub bare : (s : ℕ) → table empty s ≡ none
-      pub inv_empty : Inv (λ t. none) empty
+      pub bare : (s : ℕ) → table empty s ≡ None
+      pub inv_empty : Inv (λ t. None) empty
       pub inv_step : (b : OpenCalls R) (st : State) (e : Event) → Inv b st → Inv (open_after R b (host_call e) (step st e).1) (step st e).0
       -- what a state keeps of a session, as a machine
       pub view : ℕ → State → Machine R
       pub view_table : (s : ℕ) (st : State) → table_of R (view s st) ≡ table st s
-      pub view_gone : (s : ℕ) (st : State) → table st s ≡ none → view s st ≡ ended
-      pub live : (s : ℕ) (b : OpenCalls R) (st : State) (e : Event) (l : Local) → Inv b st → table st s ≡ some l → Follows (view s) s b st e (step st e)
+      pub view_gone : (s : ℕ) (st : State) → table st s ≡ None → view s st ≡ ended
+      pub live : (s : ℕ) (b : OpenCalls R) (st : State) (e : Event) (l : Local) → Inv b st → table st s ≡ Some l → Follows (view s) s b st e (step st e)
       -- the call that opens s leaves it as the machine that ran what names it behind its CREATE_CLIENT
       pub birth : (b : OpenCalls R) (st : State) (e : Event) (s : ℕ) (o : Opened s (works_on R b (host_call e)).0 (step st e).1) → Inv b st
           → Agrees (view s) s (step st e) (work R (start s o.client) (for_it s o.message.header o.behind))
-      pub born : (s : ℕ) (b : OpenCalls R) (st : State) (e : Event) (l : Local) → Inv b st → table st s ≡ none → table (step st e).0 s ≡ some l
+      pub born : (s : ℕ) (b : OpenCalls R) (st : State) (e : Event) (l : Local) → Inv b st → table st s ≡ None → table (step st e).0 s ≡ Some l
           → Opened s (works_on R b (host_call e)).0 (step st e).1
-      pub silent : (s : ℕ) (b : OpenCalls R) (st : State) (e : Event) → Inv b st → table (step st e).0 s ≡ none → Silent R s (step st e).1
+      pub silent : (s : ℕ) (b : OpenCalls R) (st : State) (e : Event) → Inv b st → table (step st e).0 s ≡ None → Silent R s (step st e).1
       pub greets : (b : OpenCalls R) (st : State) (e : Event) → Inv b st → Greeted R (subs_of R (works_on R b (host_call e)).0) (step st e).1
       pub fresh : (b : OpenCalls R) (st : State) (e : Event) → Inv b st → Fresh R (table st) (step st e).1
       pub own_tag : (b : OpenCalls R) (st : State) (e : Event) → Inv b st → OwnTag R (works_on R b (host_call e)).1 (step st e).1
@@ -84,7 +84,7 @@ module _ (R : Rules) where
       pub turns : (takes R m fs).in_turn ≡ true
 
     -- an ended machine does nothing more
-    same_ended : (fs : List (Feed R)) → Same ended fs (record { calls = []; replies = []; table = none })
+    same_ended : (fs : List (Feed R)) → Same ended fs (record { calls = []; replies = []; table = None })
     same_ended [] = record { alike = refl; turns = refl }
     same_ended (f ∷ fs) = let k = same_ended fs in record { alike = k.alike; turns = k.turns }
 
@@ -117,13 +117,13 @@ module _ (R : Rules) where
       Follow s p H t = Same (view s p.state) (feeds R A s p H) t
 
       -- where s may have gone
-      follow_until : (s : ℕ) (H : List Event) (p : Point R A) → ((l : Local) → table p.state s ≡ some l → Follow s p H (agent_trace R A s p H))
+      follow_until : (s : ℕ) (H : List Event) (p : Point R A) → ((l : Local) → table p.state s ≡ Some l → Follow s p H (agent_trace R A s p H))
           → Follow s p H (until R A (table p.state s) (agent_trace R A s p H))
       follow_until s H p k = go (table p.state s) refl
         where
           go : (x : Option Local) → table p.state s ≡ x → Follow s p H (until R A x (agent_trace R A s p H))
-          go none e = rw (view_gone s p.state e) (same_ended (feeds R A s p H))
-          go (some l) e = k l e
+          go None e = rw (view_gone s p.state e) (same_ended (feeds R A s p H))
+          go (Some l) e = k l e
 
       follow_step : (s : ℕ) (p : Point R A) (e : Event) (H : List Event) → Follows (view s) s p.open_calls p.state e (step p.state e)
           → Follow s (next R A p e) H (until R A (table (next R A p e).state s) (agent_trace R A s (next R A p e) H)) → Follow s p (e ∷ H) (agent_trace R A s p (e ∷ H))
@@ -133,7 +133,7 @@ module _ (R : Rules) where
           (same_more (view s) s (step p.state e) (view s p.state) (feed_of R s p.open_calls (host_call e)) (feeds R A s (next R A p e) H)
           (until R A (table (next R A p e).state s) (agent_trace R A s (next R A p e) H)) a k)
 
-      follow : (s : ℕ) (H : List Event) (p : Point R A) (l : Local) → Inv p.open_calls p.state → table p.state s ≡ some l → Follow s p H (agent_trace R A s p H)
+      follow : (s : ℕ) (H : List Event) (p : Point R A) (l : Local) → Inv p.open_calls p.state → table p.state s ≡ Some l → Follow s p H (agent_trace R A s p H)
       follow s [] p l v q = record { alike = λ i. record { calls = []; replies = []; table = sym (view_table s p.state) i }; turns = refl }
       follow s (e ∷ H) p l v q =
           follow_step s p e H (live s p.open_calls p.state e l v q) (follow_until s H (next R A p e) (λ l q. follow s H (next R A p e) l (inv_step p.open_calls p.state e v) q))
@@ -161,13 +161,13 @@ module _ (R : Rules) where
         later : List Event
         whole : H ≡ before ++ call ∷ later
         opened : Opened s (works_on R (reached R A p before).open_calls (host_call call)).0 (step (reached R A p before).state call).1
-        stays : (agent_trace R A s (reached R A p before) (call ∷ later)).table ≡ some l
+        stays : (agent_trace R A s (reached R A p before) (call ∷ later)).table ≡ Some l
 
       data Source (p : Point R A) (H : List Event) (s : ℕ) (l : Local) : Type 0 where
-        from_start : (l₀ : Local) → table p.state s ≡ some l₀ → (agent_trace R A s p H).table ≡ some l → Source p H s l
+        from_start : (l₀ : Local) → table p.state s ≡ Some l₀ → (agent_trace R A s p H).table ≡ Some l → Source p H s l
         from_call : From p H s l → Source p H s l
 
-      source : (H : List Event) (p : Point R A) (s : ℕ) (l : Local) → Inv p.open_calls p.state → table (reached R A p H).state s ≡ some l → Source p H s l
+      source : (H : List Event) (p : Point R A) (s : ℕ) (l : Local) → Inv p.open_calls p.state → table (reached R A p H).state s ≡ Some l → Source p H s l
       source [] p s l v q = from_start l q q
       source (e ∷ H) p s l v q = go (source H (next R A p e) s l (inv_step p.open_calls p.state e v) q)
         where
@@ -175,18 +175,18 @@ module _ (R : Rules) where
           go (from_call f) = from_call (record { before = e ∷ f.before; call = f.call; later = f.later; whole = ap (λ (z : List Event). e ∷ z) f.whole; opened = f.opened; stays = f.stays })
           go (from_start l₁ z t) = was (table p.state s) refl
             where
-              on : (agent_trace R A s p (e ∷ H)).table ≡ some l
+              on : (agent_trace R A s p (e ∷ H)).table ≡ Some l
               on = rw z t
 
               was : (x : Option Local) → table p.state s ≡ x → Source p (e ∷ H) s l
-              was none y = from_call (record { before = []; call = e; later = H; whole = refl; opened = born s p.open_calls p.state e l₁ v y z; stays = on })
-              was (some l₀) y = from_start l₀ y on
+              was None y = from_call (record { before = []; call = e; later = H; whole = refl; opened = born s p.open_calls p.state e l₁ v y z; stays = on })
+              was (Some l₀) y = from_start l₀ y on
 
-      covers : ((s : ℕ) → table empty s ≡ none) → (H : List Event) (s : ℕ) (l : Local) → table (reached R A (set_up R A) H).state s ≡ some l
-          → (S : Session R A H) × (S.id ≡ s) × ((of_agent R A S).table ≡ some l)
+      covers : ((s : ℕ) → table empty s ≡ None) → (H : List Event) (s : ℕ) (l : Local) → table (reached R A (set_up R A) H).state s ≡ Some l
+          → (S : Session R A H) × (S.id ≡ s) × ((of_agent R A S).table ≡ Some l)
       covers bare H s l q = go (source H (set_up R A) s l inv_empty q)
         where
-          go : Source (set_up R A) H s l → (S : Session R A H) × (S.id ≡ s) × ((of_agent R A S).table ≡ some l)
+          go : Source (set_up R A) H s l → (S : Session R A H) × (S.id ≡ s) × ((of_agent R A S).table ≡ Some l)
           go (from_start l₀ z t) = absurd (none_some (sym (bare s) ∙ z))
           go (from_call f) =
               let o = f.opened in

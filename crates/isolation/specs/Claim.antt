@@ -1,6 +1,6 @@
 -- Term 3 for any agent over any rules: one claim about the whole list H of the host's calls, for every H.
-use Rattle.std.specs.Prelude.{◌≡◌, ℕ, zero, suc, true, cond, List, [], ◌∷◌, ◌++◌, eqb}
-use Rattle.std.proofs.Math.Option.{Option, none, some, map}
+use Rattle.std.specs.Option.{option_map}
+use Rattle.std.specs.Prelude.{◌≡◌, ℕ, zero, suc, true, cond, List, [], ◌∷◌, ◌++◌, eqb, Option, None, Some}
 use Rattle.isolation.specs.Rules.{Bytes, Sub, opens, names, Message, Rules, Host, datagram, answer, removal, sweep, other, Out, opened, reply, Asked, Result, refused, ran}
 use Rattle.isolation.specs.Machine.{idle, Feed, submessages, answered, swept_at, removal_of_it, Moved, takes, Trace, trace, Handles, AllOwned}
 
@@ -30,10 +30,10 @@ module _ (R : Rules) where
   -- bridge call it answers; and the other open ones
   abbrev pub works_on : OpenCalls → Host R → Option (Message Opening In) × OpenCalls
   works_on b (datagram d) = (parse d, b)
-  works_on b (answer t a) = (b t, update t none b)
-  works_on b (removal i) = (none, b)
-  works_on b (sweep now) = (none, b)
-  works_on b other = (none, b)
+  works_on b (answer t a) = (b t, update t None b)
+  works_on b (removal i) = (None, b)
+  works_on b (sweep now) = (None, b)
+  works_on b other = (None, b)
 
   -- what stands behind the first CREATE_CLIENT
   abbrev pub behind_client : List (Sub Opening In) → List (Sub Opening In)
@@ -50,8 +50,8 @@ module _ (R : Rules) where
   -- "a refused bridge answer leaves the call open"
   abbrev pub open_after : OpenCalls → Host R → Result R → OpenCalls
   open_after b c (refused n) = b
-  open_after b c (ran os none) = (works_on b c).1
-  open_after b c (ran os (some a)) = update a.tag (map (λ m. record { header = m.header; subs = past os m.subs }) (works_on b c).0) (works_on b c).1
+  open_after b c (ran os None) = (works_on b c).1
+  open_after b c (ran os (Some a)) = update a.tag (option_map (λ m. record { header = m.header; subs = past os m.subs }) (works_on b c).0) (works_on b c).1
 
   -- "every later submessage but CREATE_CLIENT"
   abbrev pub but_clients : List (Sub Opening In) → List In
@@ -61,8 +61,8 @@ module _ (R : Rules) where
 
   -- "whose header names that id": a feed for s of a datagram; of another's there is nothing for it
   abbrev pub if_names : ℕ → Option (Message Opening In) → (List (Sub Opening In) → Feed R) → Feed R
-  if_names s none f = submessages []
-  if_names s (some m) f = cond (eqb m.header s) (f m.subs) (submessages [])
+  if_names s None f = submessages []
+  if_names s (Some m) f = cond (eqb m.header s) (f m.subs) (submessages [])
 
   -- What session s is fed of a call: "every later submessage but CREATE_CLIENT whose header names that id", "the answer to its call",
   -- "every sweep with its time, and a removal of its id".
@@ -84,7 +84,7 @@ module _ (R : Rules) where
   outs_of (ran os c) = os
 
   abbrev pub call_of : Result R → Option (Asked R)
-  call_of (refused n) = none
+  call_of (refused n) = None
   call_of (ran os c) = c
 
   -- "The STATUS that answers a CREATE_CLIENT is among no session's replies."
@@ -96,33 +96,33 @@ module _ (R : Rules) where
   -- "Calls are compared whole": the one for session s
   abbrev pub calls_of : ℕ → Result R → List Call
   calls_of s (refused n) = []
-  calls_of s (ran os none) = []
-  calls_of s (ran os (some a)) = cond (eqb a.session s) (a.call ∷ []) []
+  calls_of s (ran os None) = []
+  calls_of s (ran os (Some a)) = cond (eqb a.session s) (a.call ∷ []) []
 
   -- CREATE_CLIENT number j (from 0) with what stands behind it, and the id in STATUS number j
   abbrev pub client_at : ℕ → List (Sub Opening In) → Option (Opening × List (Sub Opening In))
-  client_at j [] = none
-  client_at zero (opens o ∷ ss) = some (o, ss)
+  client_at j [] = None
+  client_at zero (opens o ∷ ss) = Some (o, ss)
   client_at (suc j) (opens o ∷ ss) = client_at j ss
   client_at j (names i ∷ ss) = client_at j ss
 
   abbrev pub status_at : ℕ → List (Out R) → Option ℕ
-  status_at j [] = none
+  status_at j [] = None
   status_at zero (opened x r ∷ os) = x
   status_at (suc j) (opened x r ∷ os) = status_at j os
   status_at j (reply h r ∷ os) = status_at j os
 
   -- the submessages of the datagram at work, if there is one
   abbrev pub subs_of : Option (Message Opening In) → List (Sub Opening In)
-  subs_of none = []
-  subs_of (some m) = m.subs
+  subs_of None = []
+  subs_of (Some m) = m.subs
 
   -- "Its reply is a STATUS for object 0 on stream 0, with the new id and OK, or id 0 and ERR_RESOURCES": each STATUS has the bytes of its
-  -- id and answers the next CREATE_CLIENT of the datagram at work; where the datagram is at its end, none is left unanswered.
+  -- id and answers the next CREATE_CLIENT of the datagram at work; where the datagram is at its end, None is left unanswered.
   abbrev pub Greets : List (Sub Opening In) → List (Out R) → Option (Asked R) → Type 0
-  Greets ss [] none = client_at zero ss ≡ none
-  Greets ss [] (some a) = Unit {0}
-  Greets ss (opened x r ∷ os) c = (r ≡ status x) × ((o : Opening × List (Sub Opening In)) × (client_at zero ss ≡ some o)) × Greets (behind_client ss) os c
+  Greets ss [] None = client_at zero ss ≡ None
+  Greets ss [] (Some a) = Unit {0}
+  Greets ss (opened x r ∷ os) c = (r ≡ status x) × ((o : Opening × List (Sub Opening In)) × (client_at zero ss ≡ Some o)) × Greets (behind_client ss) os c
   Greets ss (reply h r ∷ os) c = Greets ss os c
 
   -- a refused call answers nobody
@@ -136,11 +136,11 @@ module _ (R : Rules) where
 
   -- "CREATE_CLIENT always opens a new session, whatever the key": an id in a STATUS is that of no session live before, and of no other STATUS
   abbrev pub Fresh : (ℕ → Option Local) → Result R → Type 0
-  Fresh live r = (j s : ℕ) → status_at j (outs_of r) ≡ some s → (live s ≡ none) × ((k : ℕ) → status_at k (outs_of r) ≡ some s → k ≡ j)
+  Fresh live r = (j s : ℕ) → status_at j (outs_of r) ≡ Some s → (live s ≡ None) × ((k : ℕ) → status_at k (outs_of r) ≡ Some s → k ≡ j)
 
   -- "the answer to its call": a call is handed out under a tag that no other open call has, so that no answer can be another's
   abbrev pub OwnTag : OpenCalls → Result R → Type 0
-  OwnTag others r = (a : Asked R) → call_of r ≡ some a → others a.tag ≡ none
+  OwnTag others r = (a : Asked R) → call_of r ≡ Some a → others a.tag ≡ None
 
   module _ (A : Agent R) where
     open A use {State, Event, empty, table, step, host_call}
@@ -152,7 +152,7 @@ module _ (R : Rules) where
 
     -- "An empty agent is one just set up."
     abbrev pub set_up : Point
-    set_up = record { state = empty; open_calls = λ t. none }
+    set_up = record { state = empty; open_calls = λ t. None }
 
     -- one call on, and all calls of a list
     abbrev pub next : Point → Event → Point
@@ -174,14 +174,14 @@ module _ (R : Rules) where
       pub client : Opening
       pub behind : List (Sub Opening In)
       pub id : ℕ
-      pub brings : (works_on (reached set_up before).open_calls (host_call call)).0 ≡ some message
-      pub asks : client_at number message.subs ≡ some (client, behind)
-      pub granted : status_at number (outs_of (step (reached set_up before).state call).1) ≡ some id
+      pub brings : (works_on (reached set_up before).open_calls (host_call call)).0 ≡ Some message
+      pub asks : client_at number message.subs ≡ Some (client, behind)
+      pub granted : status_at number (outs_of (step (reached set_up before).state call).1) ≡ Some id
 
     -- the agent's side: the session's calls, replies and tables from its opening to its end or the end of H
     abbrev pub until : Option Local → Trace R → Trace R
-    until none t = record { calls = []; replies = []; table = none }
-    until (some l) t = t
+    until None t = record { calls = []; replies = []; table = None }
+    until (Some l) t = t
 
     abbrev pub agent_trace : ℕ → Point → List Event → Trace R
     agent_trace s p [] = record { calls = []; replies = []; table = table p.state s }
@@ -200,7 +200,7 @@ module _ (R : Rules) where
 
     abbrev pub fed : {H : List Event} → Session H → List (Feed R)
     fed S =
-        if_names S.id (some (record { header = S.message.header; subs = S.behind })) (λ ss. submessages (but_clients ss))
+        if_names S.id (Some (record { header = S.message.header; subs = S.behind })) (λ ss. submessages (but_clients ss))
         ∷ feeds S.id (next (reached set_up S.before) S.call) S.later
 
     abbrev pub of_machine : {H : List Event} → Session H → Moved R
@@ -212,9 +212,9 @@ module _ (R : Rules) where
       -- The machine was fed so: "in order; while its call is open, only the answer".
       pub in_turn : (S : Session H) → (of_machine S).in_turn ≡ true
       -- No session escapes: what is live after H is a session opened in H, followed to the end of H.
-      pub covered : (s : ℕ) (l : Local) → table (reached set_up H).state s ≡ some l → (S : Session H) × (S.id ≡ s) × ((of_agent S).table ≡ some l)
+      pub covered : (s : ℕ) (l : Local) → table (reached set_up H).state s ≡ Some l → (S : Session H) × (S.id ≡ s) × ((of_agent S).table ≡ Some l)
       -- In one call more: an id that is not live after it gets no reply and no bridge call.
-      pub silent : (e : Event) (s : ℕ) → let r = step (reached set_up H).state e in table r.0 s ≡ none → Silent s r.1
+      pub silent : (e : Event) (s : ℕ) → let r = step (reached set_up H).state e in table r.0 s ≡ None → Silent s r.1
       -- No reply hides as a STATUS, and no CREATE_CLIENT is passed over.
       pub greets : (e : Event) → let p = reached set_up H in Greeted (subs_of (works_on p.open_calls (host_call e)).0) (step p.state e).1
       -- No two live sessions are one.

@@ -1,6 +1,5 @@
 -- What term 3 speaks of: the rules of one session, the host's calls, and an agent's answers.
-use Rattle.std.specs.Prelude.{ℕ, Bool, List}
-use Rattle.std.proofs.Math.Option.{Option}
+use Rattle.std.specs.Prelude.{ℕ, Bool, List, Option}
 
 -- "replies byte for byte"
 abbrev pub Bytes : Type 0

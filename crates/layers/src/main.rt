@@ -2,7 +2,7 @@
 // The format stands in oracle/README.md. It is the program that the original Rust is compared with.
 #![tactic(auto)]
 
-mod names;
+mod command;
 mod print;
 mod store;
 mod stream;
@@ -11,118 +11,96 @@ mod table;
 mod wire;
 mod words;
 
-use codec::reassembly::ReassemblyBuffer;
-use sessions::stream_rows::StreamRow;
-use sessions::table::SessionRow;
+use command::{Command, parse};
+use std::alloc::{AllocError, Global};
 use std::io;
-use std::io::{Read, Write};
-use streams::state::StreamState;
-use table::Limits;
-use words::{between, parse};
+use std::io::{BufRead, BufReader, LineWriter, Read, Write};
+use store::Store;
+use stream::Stream;
+use table::Table;
 
-// How far the input is read: `have` bytes of it are there, and the next one is at `at`.
-#[derive(Clone, Copy)]
-struct Reading {
-    at: usize,
-    have: usize,
+// How long a line may be: a datagram of 65,543 bytes takes twice as many digits. What is past it is the next line.
+const LONGEST_LINE: usize = 140_000;
+
+// Puts the next line in `line`, and says whether there was one: what stands behind the last newline is none.
+fn next_line(from: &mut impl BufRead, line: &mut Vec<u8>) -> io::Result<bool> {
+    line.clear();
+    let len = Read::take(from, LONGEST_LINE as u64).read_until(b'\n', line)?;
+    Ok(len == LONGEST_LINE || line.ends_with(b"\n"))
 }
 
-// Reads on where every byte was looked at. At the end of the input it has none.
-fn fill(from: &mut impl Read, input: &mut [u8], r: Reading) -> io::Result<Reading> {
-    if r.at < r.have {
-        return Ok(r);
+// What the commands work on.
+#[derive(Drop)]
+struct Layers {
+    store: Store,
+    stream: Stream,
+    table: Table,
+}
+
+impl Layers {
+    fn new(alloc: Global) -> Result<Self, AllocError> {
+        Ok(Layers {
+            store: Store::new(alloc)?,
+            stream: Stream::new(alloc)?,
+            table: Table::new(alloc)?,
+        })
     }
-    let have = from.read(input)?;
-    Ok(Reading { at: 0, have })
-}
 
-fn byte_at(input: &[u8], at: usize) -> u8 {
-    if at < input.len() { input[at] } else { b'\n' }
-}
-
-// Puts the next line with its newline at the start of `line`; what is past its room is the next line.
-fn read_line(
-    from: &mut impl Read,
-    input: &mut [u8],
-    line: &mut [u8],
-    start: Reading,
-) -> io::Result<Reading> {
-    let mut r = start;
-    let mut len = 0;
-    while len < line.len() {
-        r = fill(from, input, r)?;
-        let at = r.at;
-        if r.have <= at {
-            return Ok(r);
+    fn answer(&mut self, to: &mut impl Write, command: Command<'_>) -> io::Result<()> {
+        match command {
+            Command::Unknown => writeln!(to, "bad line"),
+            Command::Message(datagram) => wire::message(to, datagram),
+            Command::Encode(text) => wire::encode(to, text),
+            Command::Decode(bytes) => wire::decode(to, bytes),
+            Command::Cut(size, payload) => wire::cut(to, payload, size),
+            Command::Store(total, width) => self.store.renew(to, total, width),
+            Command::Insert(nr, body) => self.store.insert(to, nr, body),
+            Command::Has(nr) => self.store.has(to, nr),
+            Command::Counts => self.store.counts(to),
+            Command::Assemble => self.store.assemble(to),
+            Command::Stream(id, next, expected) => self.stream.renew(to, id, next, expected),
+            Command::Alloc => self.stream.alloc(to),
+            Command::Record(seq, message) => self.stream.record(to, seq, message),
+            Command::Acknack(first, bitmap) => self.stream.acknowledge(to, first, bitmap),
+            Command::Heartbeat => self.stream.heartbeat(to),
+            Command::Receive(seq) => self.stream.receive(to, seq),
+            Command::MakeAcknack(first, last) => self.stream.make_acknack(to, first, last),
+            Command::Held => self.stream.held(to),
+            Command::Table(max_clients, timeout) => self.table.renew(to, max_clients, timeout),
+            Command::Create(key, time) => self.table.create(to, key, time),
+            Command::Touch(id, time) => self.table.touch(to, id, time),
+            Command::Expired(id, timeout, time) => self.table.expired(to, id, timeout, time),
+            Command::Sweep(time) => self.table.sweep(to, time),
+            Command::Remove(id) => self.table.remove(to, id),
+            Command::Live => self.table.live(to),
+            Command::Open(id, stream) => self.table.open(to, id, stream),
+            Command::Dump => self.table.dump(to),
         }
-        r.at = at + 1;
-        line[len] = byte_at(input, at);
-        if line[len] == b'\n' {
-            return Ok(r);
-        }
-        len += 1;
     }
-    Ok(r)
 }
 
 // Reads and answers until the input ends. A proved loop has to end, so its turns are counted.
-fn run(
-    from: &mut impl Read,
-    to: &mut impl Write,
-    input: &mut [u8],
-    line: &mut [u8],
-    messages: &mut [u8],
-    slots: &mut [u8],
-    lengths: &mut [u32],
-    sessions: &mut [SessionRow],
-    streams: &mut [StreamRow],
-) -> io::Result<()> {
-    let mut reading = Reading { at: 0, have: 0 };
-    let mut store = ReassemblyBuffer {
-        total_fragments: 0,
-        received_count: 0,
-        width: 0,
-    };
-    let mut stream = StreamState::new(0);
-    let mut limits = Limits {
-        max_clients: 0,
-        timeout_ms: 0,
-        next: 1,
-    };
+fn run(from: &mut impl BufRead, to: &mut impl Write, alloc: Global) -> io::Result<()> {
+    let mut layers = Layers::new(alloc)?;
+    let mut line = Vec::with_capacity(alloc, LONGEST_LINE)?;
+    let mut given = Vec::new(alloc);
     for _ in 0..u64::MAX {
-        reading = read_line(from, input, line, reading)?;
-        if reading.have == 0 {
-            return Ok(());
+        if !next_line(from, &mut line)? {
+            break;
         }
-        let c = parse(line);
-        let given = between(line, 0, c.count);
-        wire::answer(to, c, given)?;
-        store = store::answer(to, c, given, store, slots, lengths)?;
-        stream = stream::answer(to, c, given, stream, messages)?;
-        limits = table::answer(to, c, given, limits, sessions, streams)?;
+        if let Some(command) = parse(&line, &mut given)? {
+            layers.answer(to, command)?;
+        }
     }
     Ok(())
 }
 
-// The lent stores: what is read of the input, one line (a datagram of 65,543 bytes takes twice as many digits), the stream's held
-// messages, the fragments with their lengths, and the tables as set-up leaves them.
+// Each line of an answer is written out as it ends.
 fn main(rt: HostRuntime) -> io::Result<()> {
-    let mut input = [0u8; 4096];
-    let mut line = [0u8; 140000];
-    let mut messages = [0u8; 16384];
-    let mut slots = [0u8; 65536];
-    let mut lengths = [0u32; 65536];
-    let mut sessions = [[0u64; 8]; 256];
-    let mut streams = [[0u16; 35]; 2048];
+    let alloc = rt.alloc();
     run(
-        &mut rt.reader(),
-        &mut io::writer(&rt),
-        &mut input,
-        &mut line,
-        &mut messages,
-        &mut slots,
-        &mut lengths,
-        &mut sessions,
-        &mut streams,
+        &mut BufReader::new(alloc, rt.reader())?,
+        &mut LineWriter::new(alloc, io::writer(&rt))?,
+        alloc,
     )
 }

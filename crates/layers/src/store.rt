@@ -1,104 +1,68 @@
 // Commands for one reassembly buffer.
-use crate::names;
-use crate::print::{line, line_2, refused, yes};
-use crate::wire::{room, written};
-use crate::words::{Command, low_16};
-use codec::reassembly::{Inserted, ReassemblyBuffer, StoreMade};
+use crate::print::{refused, yes};
+use crate::wire::{ROOM, written};
+use codec::reassembly::ReassemblyBuffer;
+use std::alloc::{AllocError, Global};
 use std::io;
 use std::io::Write;
 
-// A refused call leaves the store that there was.
-fn new_store(
-    to: &mut impl Write,
-    c: Command,
-    store: ReassemblyBuffer,
-    slots: &[u8],
-    lengths: &mut [u32],
-) -> io::Result<ReassemblyBuffer> {
-    match ReassemblyBuffer::new(low_16(c.first), low_16(c.second), slots, lengths) {
-        StoreMade::Store(made) => {
-            line(to, names::OK)?;
-            Ok(made)
-        }
-        StoreMade::Refused(r) => {
-            refused(to, r)?;
-            Ok(store)
-        }
-    }
+// The buffer with the fragments that it holds and their lengths. A refused call leaves the buffer that there was.
+#[derive(Drop)]
+pub struct Store {
+    buffer: ReassemblyBuffer,
+    slots: Vec<u8>,
+    lengths: Vec<u32>,
 }
 
-fn insert(
-    to: &mut impl Write,
-    c: Command,
-    body: &[u8],
-    store: ReassemblyBuffer,
-    slots: &mut [u8],
-    lengths: &mut [u32],
-) -> io::Result<ReassemblyBuffer> {
-    match store.insert(slots, lengths, low_16(c.first), body) {
-        Inserted::Held(next, all) => {
-            if all {
-                line(to, names::COMPLETE)?;
-            } else {
-                line(to, names::INCOMPLETE)?;
+impl Store {
+    pub fn new(alloc: Global) -> Result<Self, AllocError> {
+        Ok(Store {
+            buffer: ReassemblyBuffer {
+                total_fragments: 0,
+                received_count: 0,
+                width: 0,
+            },
+            slots: vec![in alloc; 0; 65536]?,
+            lengths: vec![in alloc; 0; 65536]?,
+        })
+    }
+
+    pub fn renew(&mut self, to: &mut impl Write, total: u16, width: u16) -> io::Result<()> {
+        match ReassemblyBuffer::new(total, width, &self.slots, &mut self.lengths) {
+            Ok(made) => {
+                self.buffer = made;
+                writeln!(to, "ok")
             }
-            Ok(next)
-        }
-        Inserted::Refused(r) => {
-            refused(to, r)?;
-            Ok(store)
+            Err(r) => refused(to, r),
         }
     }
-}
 
-fn assemble(
-    to: &mut impl Write,
-    store: ReassemblyBuffer,
-    slots: &[u8],
-    lengths: &[u32],
-) -> io::Result<()> {
-    let mut made = room();
-    let w = store.assemble(slots, lengths, &mut made);
-    written(to, names::PAYLOAD, w, &made)
-}
-
-// Commands that leave the store as it is.
-fn asked(
-    to: &mut impl Write,
-    c: Command,
-    store: ReassemblyBuffer,
-    slots: &[u8],
-    lengths: &[u32],
-) -> io::Result<()> {
-    let name = c.name;
-    match name {
-        names::HAS => yes(to, store.has_fragment(lengths, low_16(c.first))),
-        names::COUNTS => line_2(
-            to,
-            names::COUNTS,
-            store.received_count() as u64,
-            store.total_fragments() as u64,
-        ),
-        names::ASSEMBLE => assemble(to, store, slots, lengths),
-        _ => Ok(()),
-    }
-}
-
-pub fn answer(
-    to: &mut impl Write,
-    c: Command,
-    body: &[u8],
-    store: ReassemblyBuffer,
-    slots: &mut [u8],
-    lengths: &mut [u32],
-) -> io::Result<ReassemblyBuffer> {
-    let name = c.name;
-    match name {
-        names::STORE => new_store(to, c, store, slots, lengths),
-        names::INSERT => insert(to, c, body, store, slots, lengths),
-        _ => {
-            asked(to, c, store, slots, lengths)?;
-            Ok(store)
+    pub fn insert(&mut self, to: &mut impl Write, nr: u16, body: &[u8]) -> io::Result<()> {
+        match self
+            .buffer
+            .insert(&mut self.slots, &mut self.lengths, nr, body)
+        {
+            Ok((next, all)) => {
+                self.buffer = next;
+                writeln!(to, "{}", if all { "complete" } else { "incomplete" })
+            }
+            Err(r) => refused(to, r),
         }
+    }
+
+    pub fn has(&self, to: &mut impl Write, nr: u16) -> io::Result<()> {
+        yes(to, self.buffer.has_fragment(&self.lengths, nr))
+    }
+
+    pub fn counts(&self, to: &mut impl Write) -> io::Result<()> {
+        let received = self.buffer.received_count();
+        let total = self.buffer.total_fragments();
+        writeln!(to, "counts {received} {total}")
+    }
+
+    pub fn assemble(&self, to: &mut impl Write) -> io::Result<()> {
+        let mut made = [0; ROOM];
+        let w = self.buffer.assemble(&self.slots, &self.lengths, &mut made);
+        written(to, "payload", w, &made)
     }
 }

@@ -1,35 +1,26 @@
--- Decimal digits: a number's, from those of its tenth part; and that they are digits that read back as the number.
-use Prim.Native.Nat.{ℕ, zero, suc, ◌+◌, ◌-◌, ◌*◌, ◌/◌, ◌%◌, ◌≤◌, ◌<◌}
-use mathlib.Core.Path.{◌≡◌, refl, ap}
+-- Decimal digits: they are those that the library gives, and they are digits that read back as the number.
+use Prim.Native.Nat.{ℕ, zero, suc, ◌+◌, ◌-◌, ◌*◌, ◌/◌, ◌%◌, ◌<◌, ◌^◌}
+use mathlib.Core.Path.{◌≡◌, refl}
 use mathlib.Core.List.{List, [], ◌∷◌, ◌++◌}
 use native.Mathlib.Decide.{dec_le}
 use native.Mathlib.Nat.{lt_of_not-le}
 use native.Mathlib.Omega.{arith}
 use borrow.Author.Tests.{lt-ltb, le-ltb}
+use Rattle.std.specs.Fmt.{decimal}
+use Rattle.std.proofs.lemmas.Fmt.{AppendsLastDigit, decimal_from_appends, length-decimal-le_succ}
 use Rattle.listing.specs.Decimal.{decimal_in, decimal_of, value_from, Digits}
 
--- any count that is large enough gives the same digits
-enough : (f g n : ℕ) → n < f → n < g → decimal_in f n ≡ decimal_in g n
+-- the digits are those that the library's `decimal` gives of a number of 64 bits
+appends : AppendsLastDigit decimal_in
 unfolding decimal_in
-enough zero g n hf hg = absurd (omega arith)
-enough (suc f) zero n hf hg = absurd (omega arith)
-enough (suc f) (suc g) n hf hg =
-    elim (dec_le 10 n) [
-      | yes h ↦
-          rw (le-ltb n 10 h)
-          (ap (λ (l : List ℕ). l ++ ((48 + n % 10) ∷ [])) (enough f g (n / 10) (omega arith) (omega arith)))
-      | no h ↦ rw (lt-ltb n 10 (lt_of_not-le h))
-    ]
+appends = record {
+  one = λ k n h. rw (lt-ltb n 10 h);
+  more = λ k n h. rw (le-ltb n 10 h);
+}
 
-pub decimal_one : (n : ℕ) → n < 10 → decimal_of n ≡ (48 + n) ∷ []
-unfolding decimal_of decimal_in
-decimal_one n h = rw (lt-ltb n 10 h)
-
-pub decimal_more : (n : ℕ) → 10 ≤ n → decimal_of n ≡ decimal_of (n / 10) ++ ((48 + n % 10) ∷ [])
-unfolding decimal_of decimal_in
-decimal_more n h =
-    rw (le-ltb n 10 h)
-    (ap (λ (l : List ℕ). l ++ ((48 + n % 10) ∷ [])) (enough n (suc (n / 10)) (n / 10) (omega arith) (omega arith)))
+pub decimal_same : (n : ℕ) → n < 2 ^ 64 → decimal_of n ≡ decimal n
+unfolding decimal_of
+decimal_same n h = decimal_from_appends decimal_in appends (suc n) n h (search (arith, length-decimal-le_succ))
 
 -- ---- the digits read back
 

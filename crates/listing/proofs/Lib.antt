@@ -1,6 +1,5 @@
 -- Laws and theorems that belong to no one function.
 pub mod Decimal
-pub mod Counts
 pub mod InOrder
 pub mod Room
 pub mod Cases

@@ -1,10 +1,7 @@
 -- The room that the lines of a datagram need: 22 bytes for each submessage and 35 besides, where its length has five digits at most.
-use Prim.Native.Nat.{ℕ, suc, ◌+◌, ◌-◌, ◌*◌, ◌/◌, ◌%◌, ◌≤◌, ◌<◌}
+use Prim.Native.Nat.{ℕ, ◌+◌, ◌-◌, ◌*◌, ◌≤◌, ◌<◌}
 use mathlib.Core.Path.{◌≡◌, refl, sym, ap}
-use mathlib.Core.Bool.{Bool, true, false, cond}
 use mathlib.Core.List.{List, [], ◌∷◌, ◌++◌}
-use native.Mathlib.Decide.{dec_le}
-use native.Mathlib.Nat.{lt_of_not-le}
 use native.Mathlib.Omega.{arith}
 use borrow.Author.Tests.{leb-false}
 use lib.Dec.{leb}
@@ -14,7 +11,7 @@ use Rattle.codec.specs.Bytes.{AllBytes}
 use Rattle.codec.specs.Header.{header_of}
 use Rattle.codec.specs.Refusals.{number_of}
 use Rattle.codec.specs.Submessages.{id_of}
-use Rattle.codec.specs.Reading.{Item, Items, items, stopped, Message, message, refused, under, items_at, message_of}
+use Rattle.codec.specs.Reading.{Item, Message, message, refused, items_at, message_of}
 use Rattle.codec.specs.declared.header.MessageHeader.{MessageHeader}
 use Rattle.codec.specs.declared.refusals.Refusal.{Refusal}
 use Rattle.codec.specs.declared.refusals.Refusal.TheVariants.{BufferTooShort, UnknownSubmessageId, UnknownObjectKind, UnknownStatusCode, PayloadLengthMismatch, SessionFull, FragmentSizeZero, EmptyPayload, TooManyFragments, FragmentNumber, MissingFragments, TooLong, OutputTooShort, StoreFull, OutOfTurn, OverLimit, NotInFragments, IllFormed, WindowFault, NoSuchMinute}
@@ -23,27 +20,16 @@ use Rattle.codec.specs.declared.submessages.Submessage.TheVariants.{CreateClient
 use Rattle.codec.proofs.Pieces.{byte_small, word_small}
 use Rattle.codec.proofs.bytes.Laws.{put_fits}
 use Rattle.codec.proofs.reading.Laws.{read_placed}
+use Rattle.std.proofs.lemmas.Fmt.{length-decimal-le}
 use Rattle.listing.specs.Decimal.{decimal_of}
 use Rattle.listing.specs.Lines.{fields_of, line_of, header_word, sub_word, end_word, refused_word, end_of, sub_line, sub_lines, lines_of, InOrder, LinesFit}
-use Rattle.listing.proofs.Decimal.{decimal_one, decimal_more}
-use Rattle.listing.proofs.InOrder.{lines_in_order}
+use Rattle.listing.proofs.Decimal.{decimal_same}
+use Rattle.listing.proofs.InOrder.{message_is, lines_in_order}
 
 -- ---- digits
 
-one_digit : (n : ℕ) → n < 10 → length (decimal_of n) ≤ 1
-one_digit n h = rw (decimal_one n h) (omega arith)
-
-digit_more : (k b : ℕ) → ((n : ℕ) → n < b → length (decimal_of n) ≤ k) → (n : ℕ) → n < 10 * b → length (decimal_of n) ≤ suc k
-digit_more k b fewer n h =
-    elim (dec_le 10 n) [
-      | yes t ↦
-          let f = fewer (n / 10) (omega arith) in
-          rw (decimal_more n t, length-append (decimal_of (n / 10)) ((48 + n % 10) ∷ [])) (omega arith)
-      | no t ↦ rw (decimal_one n (lt_of_not-le t)) (omega arith)
-    ]
-
 five_digits : (n : ℕ) → n < 100000 → length (decimal_of n) ≤ 5
-five_digits n h = digit_more 4 10000 (digit_more 3 1000 (digit_more 2 100 (digit_more 1 10 one_digit))) n (omega arith)
+five_digits n h = rw (decimal_same n (omega arith)) (length-decimal-le 5 n (omega arith) h (omega arith))
 
 -- ---- lines
 
@@ -112,18 +98,12 @@ subs_room s small at (x ∷ xs) within o =
     let l = line_room sub_word ns (id_small x.says, (omega arith, (omega arith, tt))) in
     (rw (length-append (line_of sub_word ns) (sub_lines (end_of x) xs)) (omega (arith, l, r.0)), omega (arith, r.1))
 
-message_is : (g h : MessageHeader) (xs : List Item) (short : Bool) (i : Items) → cond short (refused BufferTooShort) (under g i) ≡ message h xs
-    → (short ≡ false) × (g ≡ h)
-message_is g h xs true i e = let z : ◌≡◌ {A = ℕ} 0 1 = cc in absurd (omega arith)
-message_is g h xs false (items ys) e = (refl, cc)
-message_is g h xs false (stopped r) e = let z : ◌≡◌ {A = ℕ} 0 1 = cc in absurd (omega arith)
-
 module _ (s : List ℕ) (bytes : AllBytes s) (small : length s < 100000) where
   header_is : (h : MessageHeader) (xs : List Item) → message_of s ≡ message h xs → (4 < length s) × (header_of s ≡ h)
   unfolding message_of
   header_is h xs e =
       let t = message_is (header_of s) h xs (leb (length s) 4) (items_at s 4) e in
-      (leb-false (length s) 4 t.0, t.1)
+      (leb-false (length s) 4 t.0, t.1.0)
 
   header_small : AllSmall ((header_of s).session_id ∷ (header_of s).stream_id ∷ (header_of s).sequence_nr ∷ [])
   unfolding header_of

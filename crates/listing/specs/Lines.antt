@@ -1,11 +1,10 @@
 -- Document 01, the small program: the lines that say what a datagram says.
-use Rattle.std.specs.Prelude.{ℕ, ◌+◌, ◌-◌, ◌*◌, ◌≤◌, ◌<◌, ◌≡◌, List, [], ◌∷◌, ◌++◌, length}
+use Rattle.std.specs.Prelude.{ℕ, ◌+◌, ◌-◌, ◌*◌, ◌≤◌, ◌<◌, ◌≡◌, List, [], ◌∷◌, ◌++◌, length, Ok}
 use Rattle.codec.specs.Answers.{gives, written_answer}
 use Rattle.codec.specs.Bytes.{AllBytes, put_of}
 use Rattle.codec.specs.Refusals.{number_of}
 use Rattle.codec.specs.Submessages.{id_of}
 use Rattle.codec.specs.Reading.{Item, Items, items, stopped, Message, message, refused, message_of, read_at}
-use Rattle.codec.specs.declared.layouts.Parsed.TheVariants.{Sub}
 use Rattle.listing.specs.Decimal.{decimal_of}
 
 -- a word, then each number behind a space, then the end of the line
@@ -62,7 +61,7 @@ listed (stopped r) = []
 -- that its line gives and with the end that its line's length comes to: the theorem `lines_in_order` says so of each message
 abbrev pub InOrder : List ℕ → ℕ → List Item → Type 0
 InOrder s at [] = length s ≤ at
-InOrder s at (x ∷ xs) = (read_at s at ≡ Sub x.says x.span (record { at = end_of x })) × InOrder s (end_of x) xs
+InOrder s at (x ∷ xs) = (read_at s at ≡ Ok (x.says, x.span, (record { at = end_of x }))) × InOrder s (end_of x) xs
 
 -- a submessage has 4 bytes at least and its line 22 at most, with 35 bytes for the first and the last line: so the lines of the small
 -- program's 4,096 bytes fit in the 65,536 that it lends

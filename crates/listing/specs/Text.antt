@@ -1,5 +1,6 @@
 -- Text in a lent output that may be too short for it: where it ends, and what it leaves there.
 use Rattle.std.specs.Prelude.{ℕ, ◌+◌, ◌-◌, min, ◌≡◌, Bool, cond, List, length}
+use Rattle.listing.specs.declared.text.Page.{Page}
 use Rattle.std.proofs.lemmas.List.Edits.{sets}
 
 -- where a text of `n` bytes that is put at `at` ends: behind it, but no further than `edge`
@@ -11,3 +12,10 @@ reach edge at n = at + min n (edge - at)
 pub record Put (write : Bool) (out : List ℕ) (at : ℕ) (text : List ℕ) (r : ℕ) (out' : List ℕ) : Type 0 where
   pub end : r ≡ reach (length out + 1) at (length text)
   pub bytes : out' ≡ cond write (sets out at text) out
+
+-- what a call that adds `text` to a page comes to: the text is put behind what is there, in the same output, and
+-- written or only measured as before
+pub record Adds (p : Page) (text : List ℕ) (q : Page) : Type 0 where
+  pub put : Put p.write p.out.now p.at text q.at q.out.now
+  pub write : q.write ≡ p.write
+  pub out : q.out.ghost_name ≡ p.out.ghost_name

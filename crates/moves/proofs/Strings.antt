@@ -11,8 +11,8 @@ use lib.Seq.{length-take-le}
 use Rattle.codec.specs.Reading.{part_of}
 use Rattle.codec.specs.Strings.{string_at}
 use Rattle.codec.specs.declared.layouts.Span.{Span}
-use Rattle.codec.specs.declared.strings.StringRead.TheVariants.{Text}
 use Rattle.codec.proofs.strings.Theorems.{string_given}
+use Rattle.std.specs.Prelude.{Ok}
 
 -- a part that is not empty ends within its list
 pub part_within : (s : List ℕ) (x : Span) → 1 ≤ length (part_of s x) → x.start + length (part_of s x) ≤ length s
@@ -31,7 +31,7 @@ part_within s x h = go (leb (x.start + x.len) (length s)) refl h
     go false e h = omega (arith, h)
 
 -- a string that is read starts behind its length, and ends within its list
-pub string_within : (s : List ℕ) (at : ℕ) (x : Span) → string_at s at ≡ Text x → (2 ≤ x.start) × (x.start + x.len ≤ length s)
+pub string_within : (s : List ℕ) (at : ℕ) (x : Span) → string_at s at ≡ Ok x → (2 ≤ x.start) × (x.start + x.len ≤ length s)
 string_within s at x e =
     let g = string_given s at x e in
     rw g.own (omega arith, g.whole)

@@ -1,13 +1,12 @@
 -- The bridge's answer to a call, by value: what it lists, what it says; and what is listed, over the lent tables.
-use Rattle.std.specs.Prelude.{ℕ, List}
+use Rattle.std.specs.Prelude.{ℕ, List, None, Option, Some}
 use Rattle.codec.specs.declared.submessages.ObjectNumber.{ObjectNumber}
 use Rattle.codec.specs.declared.submessages.StatusCode.{StatusCode}
-use Rattle.codec.specs.declared.submessages.StatusCode.TheVariants.{Ok, ErrUnknownRef, ErrInvalidData}
+use Rattle.codec.specs.declared.submessages.StatusCode.TheVariants as status
+use Rattle.codec.specs.declared.submessages.StatusCode.TheVariants.{ErrUnknownRef, ErrInvalidData}
 use Rattle.sessions.specs.Objects.{bridged_of}
 use Rattle.sessions.specs.SessionObjects.{stored_object, stored_objects, keep_stored}
 use Rattle.sessions.specs.declared.objects.Object.{Object}
-use Rattle.moves.specs.declared.answers.Keeps.{Keeps}
-use Rattle.moves.specs.declared.answers.Keeps.TheVariants as keeps
 use Rattle.moves.specs.declared.answers.Says.{Says}
 use Rattle.moves.specs.declared.answers.Says.TheVariants.{Status, Data}
 use Rattle.moves.specs.declared.proxy.BridgeAnswer.{BridgeAnswer}
@@ -16,29 +15,29 @@ use Rattle.moves.specs.declared.proxy.Task.{Task}
 use Rattle.moves.specs.declared.proxy.Task.TheVariants.{Creating, Writing, Reading, Deleting}
 
 -- "A CREATE that succeeds .. lists its object with the handle returned"; W1: the record "holds its CREATE's parent number"
-abbrev pub created_keeps : ObjectNumber → ℕ → ℕ → BridgeAnswer → Keeps
-created_keeps number kind parent (Created h) = keeps.Object (bridged_of number kind h parent)
-created_keeps number kind parent Done = keeps.Nothing
-created_keeps number kind parent Sample = keeps.Nothing
-created_keeps number kind parent NoSample = keeps.Nothing
-created_keeps number kind parent Failed = keeps.Nothing
+abbrev pub created_keeps : ObjectNumber → ℕ → ℕ → BridgeAnswer → Option Object
+created_keeps number kind parent (Created h) = Some (bridged_of number kind h parent)
+created_keeps number kind parent Done = None
+created_keeps number kind parent Sample = None
+created_keeps number kind parent NoSample = None
+created_keeps number kind parent Failed = None
 
-abbrev pub keeps_of : ObjectNumber → Task → BridgeAnswer → Keeps
+abbrev pub keeps_of : ObjectNumber → Task → BridgeAnswer → Option Object
 keeps_of number (Creating kind parent) a = created_keeps number kind parent a
-keeps_of number Writing a = keeps.Nothing
-keeps_of number Reading a = keeps.Nothing
-keeps_of number Deleting a = keeps.Nothing
+keeps_of number Writing a = None
+keeps_of number Reading a = None
+keeps_of number Deleting a = None
 
 -- "every failed CREATE answers ERR_INVALID_DATA"
 abbrev pub created_says : BridgeAnswer → Says
-created_says (Created h) = Status Ok
+created_says (Created h) = Status status.Ok
 created_says Done = Status ErrInvalidData
 created_says Sample = Status ErrInvalidData
 created_says NoSample = Status ErrInvalidData
 created_says Failed = Status ErrInvalidData
 
 abbrev pub done_says : BridgeAnswer → StatusCode → Says
-done_says Done code = Status Ok
+done_says Done code = Status status.Ok
 done_says (Created h) code = Status code
 done_says Sample code = Status code
 done_says NoSample code = Status code
@@ -47,7 +46,7 @@ done_says Failed code = Status code
 -- "A read without data answers STATUS OK"
 abbrev pub read_says : BridgeAnswer → Says
 read_says Sample = Data
-read_says NoSample = Status Ok
+read_says NoSample = Status status.Ok
 read_says (Created h) = Status ErrInvalidData
 read_says Done = Status ErrInvalidData
 read_says Failed = Status ErrInvalidData
@@ -59,10 +58,10 @@ says_of Writing a = done_says a ErrInvalidData
 says_of Reading a = read_says a
 says_of Deleting a = done_says a ErrUnknownRef
 
-abbrev pub kept_sessions : Keeps → List (List ℕ) → List Object → ℕ → List (List ℕ)
-kept_sessions (keeps.Object x) s o id = keep_stored s id (stored_object s o id x)
-kept_sessions keeps.Nothing s o id = s
+abbrev pub kept_sessions : Option Object → List (List ℕ) → List Object → ℕ → List (List ℕ)
+kept_sessions (Some x) s o id = keep_stored s id (stored_object s o id x)
+kept_sessions None s o id = s
 
-abbrev pub kept_objects : Keeps → List (List ℕ) → List Object → ℕ → List Object
-kept_objects (keeps.Object x) s o id = stored_objects s o id x
-kept_objects keeps.Nothing s o id = o
+abbrev pub kept_objects : Option Object → List (List ℕ) → List Object → ℕ → List Object
+kept_objects (Some x) s o id = stored_objects s o id x
+kept_objects None s o id = o

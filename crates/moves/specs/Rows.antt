@@ -1,10 +1,11 @@
 -- What a submessage comes to and leaves, over the lent tables: what is fetched, what is stored, and the move.
-use Rattle.std.specs.Prelude.{ℕ, Bool, true, false, cond, List}
+use Rattle.std.specs.Prelude.{ℕ, Bool, true, false, cond, List, Err, Ok, Result}
 use Rattle.codec.specs.declared.layouts.Span.{Span}
 use Rattle.codec.specs.declared.submessages.ObjectKind.{ObjectKind}
 use Rattle.codec.specs.declared.submessages.ObjectKind.TheVariants.{Participant, Topic, Publisher, Subscriber, DataWriter, DataReader}
 use Rattle.codec.specs.declared.submessages.ObjectNumber.{ObjectNumber}
-use Rattle.codec.specs.declared.submessages.StatusCode.TheVariants.{Ok, ErrIncompatible, ErrResources}
+use Rattle.codec.specs.declared.submessages.StatusCode.TheVariants as status
+use Rattle.codec.specs.declared.submessages.StatusCode.TheVariants.{ErrIncompatible, ErrResources}
 use Rattle.codec.specs.declared.submessages.Submessage.{Submessage}
 use Rattle.codec.specs.declared.submessages.Submessage.TheVariants as sub
 use Rattle.sessions.specs.Objects.{implicit_of}
@@ -13,7 +14,7 @@ use Rattle.sessions.specs.Removal.{taken_object, removed_objects, keep_removed}
 use Rattle.sessions.specs.Room.{room_of}
 use Rattle.sessions.specs.declared.objects.Object.{Object}
 use Rattle.sessions.specs.declared.room.Room.{Room}
-use Rattle.sessions.specs.declared.room.Room.TheVariants.{Free, Full, Depended, NotLive, Refused}
+use Rattle.sessions.specs.declared.room.Room.TheVariants.{Free, Full, Depended, NotLive}
 use Rattle.moves.specs.Names.{names_in}
 use Rattle.moves.specs.Moves.{found_handle, parent_of, participant_move, topic_move, endpoint_move, write_move, delete_move}
 use Rattle.moves.specs.RowsStreams.{opened_sessions, opened_rows, read_of, stream_move, stream_rows, read_move, read_sessions, read_rows}
@@ -24,6 +25,7 @@ use Rattle.moves.specs.declared.handle.Opening.{Opening}
 use Rattle.moves.specs.declared.handle.Opening.TheVariants.{Client, Fragment, Other}
 use Rattle.moves.specs.declared.handle.Group.{Group}
 use Rattle.moves.specs.declared.handle.Group.TheVariants.{Creates, Deletes, Writes, Reads, Streams, Neither}
+use Rattle.codec.specs.declared.refusals.Refusal.{Refusal}
 
 -- what a submessage is handled over: the rows of sessions and streams, and the records of objects
 pub record Rows : Type 0 where
@@ -35,7 +37,7 @@ abbrev pub rows : List (List ℕ) → List (List ℕ) → List Object → Rows
 rows sessions streams objects = record { sessions = sessions; streams = streams; objects = objects }
 
 abbrev pub ok_move : ObjectNumber → Move
-ok_move number = Status number Ok
+ok_move number = Status number status.Ok
 
 -- ---- CREATE where there is room: only a Publisher or a Subscriber is listed, the others ask the bridge or fail
 
@@ -70,27 +72,27 @@ created_objects DataReader s o id number parent = o
 
 -- "CREATE of a 33rd number answers ERR_RESOURCES before any lookup or call."; W3: a CREATE of the number of an object that has a dependant "answers
 -- ERR_INCOMPATIBLE without a bridge call and keeps it", "after the count of objects and before any lookup"
-abbrev pub is_free : Room → Bool
-is_free Free = true
-is_free Full = false
-is_free Depended = false
-is_free NotLive = false
-is_free (Refused r) = false
+abbrev pub is_free : Result Room Refusal → Bool
+is_free (Ok Free) = true
+is_free (Ok Full) = false
+is_free (Ok Depended) = false
+is_free (Ok NotLive) = false
+is_free (Err r) = false
 
-abbrev pub no_room_move : ObjectNumber → Room → Move
-no_room_move number Free = Silent
-no_room_move number Full = Status number ErrResources
-no_room_move number Depended = Status number ErrIncompatible
-no_room_move number NotLive = Silent
-no_room_move number (Refused r) = Silent
+abbrev pub no_room_move : ObjectNumber → Result Room Refusal → Move
+no_room_move number (Ok Free) = Silent
+no_room_move number (Ok Full) = Status number ErrResources
+no_room_move number (Ok Depended) = Status number ErrIncompatible
+no_room_move number (Ok NotLive) = Silent
+no_room_move number (Err r) = Silent
 
-abbrev pub room_move : Room → List (List ℕ) → List Object → List ℕ → ℕ → ObjectNumber → ObjectKind → ℕ → Span → Move
+abbrev pub room_move : Result Room Refusal → List (List ℕ) → List Object → List ℕ → ℕ → ObjectNumber → ObjectKind → ℕ → Span → Move
 room_move r s o d id number kind parent body = cond (is_free r) (create_move kind s o d id number parent body) (no_room_move number r)
 
-abbrev pub room_sessions : Room → List (List ℕ) → List Object → ℕ → ObjectNumber → ObjectKind → ℕ → List (List ℕ)
+abbrev pub room_sessions : Result Room Refusal → List (List ℕ) → List Object → ℕ → ObjectNumber → ObjectKind → ℕ → List (List ℕ)
 room_sessions r s o id number kind parent = cond (is_free r) (created_sessions kind s o id number parent) s
 
-abbrev pub room_objects : Room → List (List ℕ) → List Object → ℕ → ObjectNumber → ObjectKind → ℕ → List Object
+abbrev pub room_objects : Result Room Refusal → List (List ℕ) → List Object → ℕ → ObjectNumber → ObjectKind → ℕ → List Object
 room_objects r s o id number kind parent = cond (is_free r) (created_objects kind s o id number parent) o
 
 -- ---- what a submessage asks for, taken apart as the code does; what it doesn't have is zero

@@ -1,5 +1,5 @@
 -- HEARTBEAT, ACKNACK and READ_DATA over the lent tables: "both HEARTBEAT and ACKNACK open their stream", and so does READ_DATA of a known reader (W5).
-use Rattle.std.specs.Prelude.{ℕ, Bool, true, false, cond, List, eqb}
+use Rattle.std.specs.Prelude.{ℕ, Bool, true, false, cond, List, eqb, Err, None, Ok, Option, Result, Some}
 use Rattle.codec.specs.declared.submessages.AcknackPayload.{AcknackPayload}
 use Rattle.codec.specs.declared.submessages.ObjectNumber.{ObjectNumber}
 use Rattle.codec.specs.declared.submessages.StatusCode.TheVariants.{ErrUnknownRef}
@@ -7,14 +7,13 @@ use Rattle.streams.specs.Acknowledged.{acknowledge}
 use Rattle.streams.specs.declared.state.StreamState.{StreamState}
 use Rattle.sessions.specs.SessionStreams.{stream_place, opened_count, opened_in, read_as, written_in}
 use Rattle.sessions.specs.declared.objects.Handle.{Handle}
-use Rattle.sessions.specs.declared.objects.ObjectHandle.{ObjectHandle}
-use Rattle.sessions.specs.declared.objects.ObjectHandle.TheVariants.{Bridged, Implicit}
 use Rattle.sessions.specs.declared.session_streams.StreamNamed.{StreamNamed}
-use Rattle.sessions.specs.declared.session_streams.StreamNamed.TheVariants.{Open, NotOpen, NotLive, Refused}
+use Rattle.sessions.specs.declared.session_streams.StreamNamed.TheVariants.{Open, NotOpen, NotLive}
 use Rattle.sessions.specs.declared.session_streams.StreamRead.{StreamRead}
 use Rattle.moves.specs.Moves.{heartbeat_move, acknack_on, read_call, read_on}
 use Rattle.moves.specs.declared.moves.Move.{Move}
 use Rattle.moves.specs.declared.moves.Move.TheVariants.{Status}
+use Rattle.codec.specs.declared.refusals.Refusal.{Refusal}
 
 abbrev pub opened_sessions : List (List ℕ) → List (List ℕ) → ℕ → ℕ → List (List ℕ)
 opened_sessions s x id n = opened_count (stream_place s x id n) s id
@@ -29,11 +28,11 @@ read_of s x id n = read_as (stream_place s x id n) x id
 abbrev pub written : List (List ℕ) → List (List ℕ) → ℕ → StreamState → List (List ℕ)
 written s x id state = written_in (stream_place s x id state.stream_id) x id state
 
-abbrev pub acknowledged_rows : List (List ℕ) → List (List ℕ) → ℕ → StreamNamed → StreamState → AcknackPayload → List (List ℕ)
-acknowledged_rows s x id Open state p = written s x id (acknowledge state p.first_unacked_seq p.nack_bitmap).state
-acknowledged_rows s x id NotOpen state p = x
-acknowledged_rows s x id NotLive state p = x
-acknowledged_rows s x id (Refused r) state p = x
+abbrev pub acknowledged_rows : List (List ℕ) → List (List ℕ) → ℕ → Result StreamNamed Refusal → StreamState → AcknackPayload → List (List ℕ)
+acknowledged_rows s x id (Ok Open) state p = written s x id (acknowledge state p.first_unacked_seq p.nack_bitmap).state
+acknowledged_rows s x id (Ok NotOpen) state p = x
+acknowledged_rows s x id (Ok NotLive) state p = x
+acknowledged_rows s x id (Err r) state p = x
 
 -- a HEARTBEAT hears, an ACKNACK doesn't; each has two numbers
 abbrev pub stream_move : Bool → ℕ → ℕ → StreamRead → Move
@@ -50,14 +49,14 @@ abbrev pub read_from : ObjectNumber → Handle → List (List ℕ) → List (Lis
 read_from number h s x id n =
     let r = read_of (opened_sessions s x id n) (opened_rows s x id n) id n in cond (eqb n 0) (read_call number h) (read_on r.answer r.state number h)
 
-abbrev pub read_move : ObjectNumber → ObjectHandle → List (List ℕ) → List (List ℕ) → ℕ → ℕ → Move
-read_move number (Bridged h) s x id n = read_from number h s x id n
-read_move number Implicit s x id n = Status number ErrUnknownRef
+abbrev pub read_move : ObjectNumber → Option Handle → List (List ℕ) → List (List ℕ) → ℕ → ℕ → Move
+read_move number (Some h) s x id n = read_from number h s x id n
+read_move number None s x id n = Status number ErrUnknownRef
 
-abbrev pub read_sessions : ObjectHandle → List (List ℕ) → List (List ℕ) → ℕ → ℕ → List (List ℕ)
-read_sessions (Bridged h) s x id n = cond (eqb n 0) s (opened_sessions s x id n)
-read_sessions Implicit s x id n = s
+abbrev pub read_sessions : Option Handle → List (List ℕ) → List (List ℕ) → ℕ → ℕ → List (List ℕ)
+read_sessions (Some h) s x id n = cond (eqb n 0) s (opened_sessions s x id n)
+read_sessions None s x id n = s
 
-abbrev pub read_rows : ObjectHandle → List (List ℕ) → List (List ℕ) → ℕ → ℕ → List (List ℕ)
-read_rows (Bridged h) s x id n = cond (eqb n 0) x (opened_rows s x id n)
-read_rows Implicit s x id n = x
+abbrev pub read_rows : Option Handle → List (List ℕ) → List (List ℕ) → ℕ → ℕ → List (List ℕ)
+read_rows (Some h) s x id n = cond (eqb n 0) x (opened_rows s x id n)
+read_rows None s x id n = x

@@ -1,18 +1,20 @@
 // One submessage of a live session: what it asks for is taken apart once, by value, and handled over the session's rows.
 ghost use Rattle.std.specs.Prelude.{◌≡◌};
-ghost use Rattle.moves.specs.Rows.{rows, blank_asked, opens_with, creates_as, names_one, on_stream, fragment_of, asks_of, handled_move, handled_rows};
+ghost use Rattle.moves.specs.Rows.{rows, blank_asked, names_one, on_stream, asks_of, handled_move, handled_rows};
 
 use crate::moves::Move;
 use crate::objects::{create, delete, read_data, write_data};
-use crate::stream_moves::handle_stream;
+use crate::stream_moves::{acknack, heartbeat};
 use codec::layouts::Span;
-use codec::submessages::{ObjectKind, ObjectNumber, Submessage};
+use codec::submessages::{
+    AcknackPayload, CreatePayload, HeartbeatPayload, ObjectKind, ObjectNumber, Submessage,
+};
 use sessions::objects::Object;
 use sessions::stream_rows::StreamRow;
 use sessions::table::SessionRow;
 
 // Whether a submessage opens a session, is a FRAGMENT, or goes to the session as it stands; `Unread` where none was read.
-#[derive(Clone, Copy)]
+#[derive(Debug, Clone, Copy, PartialEq, Eq)]
 pub enum Opening {
     Client,
     Fragment,
@@ -21,7 +23,7 @@ pub enum Opening {
 }
 
 // What it is about.
-#[derive(Clone, Copy)]
+#[derive(Debug, Clone, Copy, PartialEq, Eq)]
 pub enum Group {
     Creates,
     Deletes,
@@ -34,7 +36,8 @@ pub enum Group {
 // A submessage, taken apart: the key of a CREATE_CLIENT; the object that a CREATE, DELETE, WRITE_DATA or READ_DATA names, and
 // a CREATE's kind and parent; the two numbers of a HEARTBEAT, which hears, of an ACKNACK, or of a FRAGMENT. What it doesn't
 // have is zero.
-#[derive(Clone, Copy)]
+// Flat, and no enum with payloads: a walk that branches on such an enum takes ten times as long to prove (docs/DECISIONS.md, 80).
+#[derive(Clone, Copy, Debug, PartialEq, Eq)]
 pub struct Asked {
     pub opening: Opening,
     pub group: Group,
@@ -64,51 +67,13 @@ pub fn blank(opening: Opening) -> Asked
     }
 }
 
-fn opens(key: u32) -> Asked
-    ensures { result ≡ opens_with key }
-{
-    Asked {
-        opening: Opening::Client,
-        group: Group::Neither,
-        key,
-        number: ObjectNumber(0),
-        kind: ObjectKind::Participant,
-        parent: 0,
-        hears: false,
-        first: 0,
-        second: 0,
-    }
-}
-
-fn creates(number: ObjectNumber, kind: ObjectKind, parent: u16) -> Asked
-    ensures { result ≡ creates_as number kind parent }
-{
-    Asked {
-        opening: Opening::Other,
-        group: Group::Creates,
-        key: 0,
-        number,
-        kind,
-        parent,
-        hears: false,
-        first: 0,
-        second: 0,
-    }
-}
-
 fn names(group: Group, number: ObjectNumber) -> Asked
     ensures { result ≡ names_one group number }
 {
     Asked {
-        opening: Opening::Other,
         group,
-        key: 0,
         number,
-        kind: ObjectKind::Participant,
-        parent: 0,
-        hears: false,
-        first: 0,
-        second: 0,
+        ..blank(Opening::Other)
     }
 }
 
@@ -116,31 +81,11 @@ fn on_stream(hears: bool, first: u16, second: u16) -> Asked
     ensures { result ≡ on_stream hears first second }
 {
     Asked {
-        opening: Opening::Other,
         group: Group::Streams,
-        key: 0,
-        number: ObjectNumber(0),
-        kind: ObjectKind::Participant,
-        parent: 0,
         hears,
         first,
         second,
-    }
-}
-
-fn fragments(number: u16, total: u16) -> Asked
-    ensures { result ≡ fragment_of number total }
-{
-    Asked {
-        opening: Opening::Fragment,
-        group: Group::Neither,
-        key: 0,
-        number: ObjectNumber(0),
-        kind: ObjectKind::Participant,
-        parent: 0,
-        hears: false,
-        first: number,
-        second: total,
+        ..blank(Opening::Other)
     }
 }
 
@@ -149,24 +94,33 @@ pub fn asks(m: Submessage) -> Asked
     ensures { result ≡ asks_of m }
 {
     match m {
-        Submessage::CreateClient(p) => opens(p.client_key),
-        Submessage::Create(p) => {
-            let kind = p.kind;
-            creates(p.object_id, kind, p.parent_id)
-        }
+        Submessage::CreateClient(p) => Asked {
+            key: p.client_key,
+            ..blank(Opening::Client)
+        },
+        Submessage::Create(p) => Asked {
+            group: Group::Creates,
+            number: p.object_id,
+            kind: p.kind,
+            parent: p.parent_id,
+            ..blank(Opening::Other)
+        },
         Submessage::Delete(p) => names(Group::Deletes, p.object_id),
         Submessage::WriteData(p) => names(Group::Writes, p.writer_id),
         Submessage::ReadData(p) => names(Group::Reads, p.reader_id),
         Submessage::Heartbeat(p) => on_stream(true, p.first_unacked_seq, p.last_seq),
         Submessage::Acknack(p) => on_stream(false, p.first_unacked_seq, p.nack_bitmap),
-        Submessage::Status(_) => blank(Opening::Other),
-        Submessage::Data(_) => blank(Opening::Other),
-        Submessage::Fragment(p) => fragments(p.fragment_nr, p.total_fragments),
+        Submessage::Status(_) | Submessage::Data(_) => blank(Opening::Other),
+        Submessage::Fragment(p) => Asked {
+            first: p.fragment_nr,
+            second: p.total_fragments,
+            ..blank(Opening::Fragment)
+        },
     }
 }
 
-// By what it is about: its handler, over the session's rows, and whether its datagram's minute is open. The session is live; CREATE_CLIENT is not for it, and a FRAGMENT
-// is handled before.
+// By what it is about: its handler, over the session's rows, and whether its datagram's minute is open. The session is
+// live; CREATE_CLIENT is not for it, and a FRAGMENT is handled before.
 pub fn handle(
     sessions: &mut [SessionRow],
     streams: &mut [StreamRow],
@@ -183,13 +137,32 @@ pub fn handle(
         × (streams.new ≡ (handled_rows q (rows sessions.old streams.old objects.old) id n).streams)
         × (objects.new ≡ (handled_rows q (rows sessions.old streams.old objects.old) id n).objects) }
 {
-    let group = q.group;
-    match group {
-        Group::Creates => create(sessions, objects, d, id, q.number, q.kind, q.parent, body),
+    match q.group {
+        Group::Creates => {
+            let p = CreatePayload {
+                object_id: q.number,
+                kind: q.kind,
+                parent_id: q.parent,
+            };
+            create(sessions, objects, d, id, p, body)
+        }
         Group::Deletes => delete(sessions, objects, id, q.number),
         Group::Writes => write_data(sessions, objects, id, q.number, body, may_write),
         Group::Reads => read_data(sessions, streams, objects, id, n, q.number),
-        Group::Streams => handle_stream(sessions, streams, id, n, q.hears, q.first, q.second),
+        Group::Streams if q.hears => {
+            let p = HeartbeatPayload {
+                first_unacked_seq: q.first,
+                last_seq: q.second,
+            };
+            heartbeat(sessions, streams, id, n, p)
+        }
+        Group::Streams => {
+            let p = AcknackPayload {
+                first_unacked_seq: q.first,
+                nack_bitmap: q.second,
+            };
+            acknack(sessions, streams, id, n, p)
+        }
         Group::Neither => Move::Silent,
     }
 }

@@ -1,54 +1,47 @@
-// The line of a bridge call. Names and data are parts of the bytes that its submessage stands in.
-use crate::print::{bytes, end_line, number, text};
+// The line of a bridge call.
+use crate::print::Hex;
 use codec::layouts::Span;
 use codec::reading::part;
 use moves::proxy::BridgeCall;
-use sessions::objects::Handle;
-use std::io;
-use std::io::Write;
+use std::fmt;
 
-fn handle(to: &mut impl Write, h: Handle) -> io::Result<()> {
-    number(to, h.0 as u64)
+// A call with the bytes that its submessage stands in: names and data are parts of them.
+#[derive(Clone, Copy)]
+pub struct Call<'a> {
+    pub call: BridgeCall,
+    pub bytes: &'a [u8],
 }
 
-fn two(to: &mut impl Write, name: &[u8], a: Handle, b: Handle) -> io::Result<()> {
-    text(to, name)?;
-    handle(to, a)?;
-    handle(to, b)
-}
-
-fn one(to: &mut impl Write, name: &[u8], a: Handle) -> io::Result<()> {
-    text(to, name)?;
-    handle(to, a)
-}
-
-fn topic(
-    to: &mut impl Write,
-    d: &[u8],
-    parent: Handle,
-    name: Span,
-    type_name: Span,
-) -> io::Result<()> {
-    one(to, b"call create_topic", parent)?;
-    bytes(to, part(d, name))?;
-    bytes(to, part(d, type_name))
-}
-
-pub fn say_call(to: &mut impl Write, d: &[u8], call: BridgeCall) -> io::Result<()> {
-    match call {
-        BridgeCall::CreateParticipant(domain) => {
-            text(to, b"call create_participant")?;
-            number(to, domain as u64)?;
-        }
-        BridgeCall::CreateTopic(parent, name, type_name) => topic(to, d, parent, name, type_name)?,
-        BridgeCall::CreateWriter(p, t) => two(to, b"call create_writer", p, t)?,
-        BridgeCall::CreateReader(p, t) => two(to, b"call create_reader", p, t)?,
-        BridgeCall::WriteData(w, data) => {
-            one(to, b"call write_data", w)?;
-            bytes(to, part(d, data))?;
-        }
-        BridgeCall::ReadData(r) => one(to, b"call read_data", r)?,
-        BridgeCall::DeleteEntity(h) => one(to, b"call delete_entity", h)?,
+impl Call<'_> {
+    fn part(&self, span: Span) -> Hex<'_> {
+        Hex(part(self.bytes, span))
     }
-    end_line(to)
+}
+
+impl fmt::Display for Call<'_> {
+    fn fmt<W: fmt::Write>(&self, f: &mut fmt::Formatter<W>) -> fmt::Result {
+        match self.call {
+            BridgeCall::CreateParticipant(domain) => {
+                write!(f, "call create_participant {domain}")
+            }
+            BridgeCall::CreateTopic(parent, name, type_name) => write!(
+                f,
+                "call create_topic {} {} {}",
+                parent.0,
+                self.part(name),
+                self.part(type_name)
+            ),
+            BridgeCall::CreateWriter(participant, topic) => {
+                write!(f, "call create_writer {} {}", participant.0, topic.0)
+            }
+            BridgeCall::CreateReader(participant, topic) => {
+                write!(f, "call create_reader {} {}", participant.0, topic.0)
+            }
+            BridgeCall::WriteData(writer, data) => {
+                write!(f, "call write_data {} {}", writer.0, self.part(data))
+            }
+            BridgeCall::ReadData(reader) => write!(f, "call read_data {}", reader.0),
+            BridgeCall::DeleteEntity(entity) => write!(f, "call delete_entity {}", entity.0),
+        }
+    }
 }

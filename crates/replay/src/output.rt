@@ -1,90 +1,76 @@
 // The lent output: the pattern that it is filled with, and the replies that stand in it.
 ghost use Rattle.std.specs.Prelude.{◌≤◌, ◌<◌, length};
+ghost use Rattle.std.specs.Iterator.{at_most};
 
-use crate::print;
-use crate::words::between;
 use std::io;
 use std::io::Write;
-
-// How much of a store a script's number asks for, at most all of it: a longer result is refused as 13.
-pub fn within(asked: u64, have: usize) -> usize
-    ensures { result ≤ have }
-{
-    if asked < have as u64 {
-        asked as usize
-    } else {
-        have
-    }
-}
 
 // The pattern; its period divides no reply's length.
 fn mark(i: usize) -> u8 {
     (i % 251) as u8
 }
 
-// Fills what is lent.
-pub fn cover(out: &mut [u8], asked: u64) {
-    let room = within(asked, out.len());
-    let mut i = 0;
-    while i < room {
-        out[i] = mark(i);
-        i += 1;
+// Lends as much of a store as a script's number asks for, at most all of it, filled with the pattern: a longer result is refused
+// as 13.
+pub fn lend(out: &mut [u8], asked: u64) -> &mut [u8] {
+    let room = asked.min(out.len() as u64) as usize;
+    let lent = &mut out[..room];
+    for (i, b) in lent.iter_mut().enumerate() {
+        *b = mark(i);
     }
+    lent
 }
 
-fn is_covered(out: &[u8], from: usize, room: usize) -> bool {
-    let mut i = from;
-    while i < room {
-        if out.len() <= i {
-            return true;
-        }
-        if out[i] != mark(i) {
-            return false;
-        }
-        i += 1;
-    }
-    true
+// The first `n` bytes.
+pub fn front(bytes: &[u8], n: usize) -> &[u8] {
+    bytes.get(..n).unwrap_or(b"")
+}
+
+fn is_marked(out: &[u8], from: usize) -> bool {
+    out.iter()
+        .enumerate()
+        .skip(from)
+        .all(|(i, b)| *b == mark(i))
 }
 
 // Says so if a byte changed behind the result.
-pub fn moved(to: &mut impl Write, out: &[u8], wrote: usize, room: usize) -> io::Result<()> {
-    if !is_covered(out, wrote, room) {
-        print::line(to, b"moved")?;
+pub fn moved(to: &mut impl Write, out: &[u8], wrote: usize) -> io::Result<()> {
+    if is_marked(out, wrote) {
+        return Ok(());
     }
-    Ok(())
+    writeln!(to, "moved")
 }
 
-fn wide(b: u8) -> usize
-    ensures { result < 256 }
+// How long the first reply is: its header, its submessage's header and its payload.
+fn reply_len(out: &[u8]) -> usize
+    requires { 0 < length out.now }
+    ensures some { 0 < result }
+    ensures within { result ≤ length out.now }
 {
-    b as usize
+    match out {
+        [_, _, _, _, _, _, low, high, ..] => {
+            let payload = u16::from_le_bytes([*low, *high]);
+            out.len().min(8 + usize::from(payload))
+        }
+        _ => out.len(),
+    }
 }
 
-// Where the reply that begins at `at` ends: behind its header, its submessage's header and its payload.
-fn reply_end(out: &[u8], at: usize) -> usize
-    requires { at < length out.now }
-    ensures { (at < result) × (result ≤ length out.now) }
-{
-    let left = out.len() - at;
-    if left < 8 {
-        return out.len();
-    }
-    let len = 8 + wide(out[at + 6]) + 256 * wide(out[at + 7]);
-    if left < len {
-        return out.len();
-    }
-    at + len
-}
+// The replies that stand one behind the other.
+#[derive(Clone, Copy, Debug)]
+pub struct Replies<'a>(pub &'a [u8]);
 
-// A line for each reply.
-pub fn replies(to: &mut impl Write, out: &[u8]) -> io::Result<()> {
-    let mut at = 0;
-    while at < out.len() {
-        let end = reply_end(out, at);
-        print::text(to, b"reply")?;
-        print::bytes(to, between(out, at, end))?;
-        print::end_line(to)?;
-        at = end;
+impl<'a> Iterator for Replies<'a> {
+    type Item = &'a [u8];
+
+    ghost remaining = { λ s. at_most (length s.0.now) };
+
+    fn next(&mut self) -> Option<&'a [u8]> {
+        if self.0.is_empty() {
+            return None;
+        }
+        let (reply, behind) = self.0.split_at(reply_len(self.0));
+        self.0 = behind;
+        Some(reply)
     }
-    Ok(())
 }

@@ -1,61 +1,110 @@
-// The lent stores but the objects. Those of held messages and of fragments have 114,688 and 33,024 bytes for each client, and are
-// for 255 clients: a `setup` of more is refused as 16.
-use crate::serve::own;
-use std::alloc::Global;
-use std::io;
-use std::io::{Read, Write};
+// The tables and stores that are lent to the agent.
+use agent::agent::{process_answer, process_incoming, setup};
+use agent::process::Processed;
+use agent::state::{Agent, Given};
+use codec::refusals::Refusal;
+use codec::submessages::ObjectNumber;
+use hours::windows::WindowRow;
+use moves::proxy::BridgeAnswer;
+use sessions::objects::Object;
+use sessions::stream_rows::StreamRow;
+use sessions::table::SessionRow;
+use std::alloc::{AllocError, Global};
 
-// What is read of the input, a line of it, the datagram of an open call, the output, the tables, the rebuilt bytes, the week's
-// minutes, the windows of a `setup` and the objects as words for `dump`. A line holds a datagram of seven longest payloads, and the output all that it can be answered with, 11 bytes for
-// every 6, but for repeats: those of 63 ACKNACKs, 16 messages of 1,024 bytes to each.
-fn lend(
-    alloc: Global,
-    from: &mut impl Read,
-    to: &mut impl Write,
-    held: &mut [u8],
-    parts: &mut [u8],
-    lengths: &mut [u32],
-) -> io::Result<()> {
-    let mut input = [0u8; 4096];
-    let mut line = vec![in alloc; 0u8; 1048576]?;
-    let mut kept = vec![in alloc; 0u8; 524288]?;
-    let mut out = vec![in alloc; 0u8; 1048576]?;
-    let mut sessions = [[0u64; 8]; 256];
-    let mut streams = [[0u16; 35]; 2048];
-    let mut rebuilt = [0u8; 32768];
-    let mut hours = [0u8; 10080];
-    let mut windows = [[0u16; 3]; 64];
-    let mut packed = [[0u64; 2]; 8192];
-    own(
-        from,
-        to,
-        &mut input,
-        &mut line,
-        &mut kept,
-        &mut out,
-        &mut sessions,
-        &mut streams,
-        held,
-        parts,
-        lengths,
-        &mut rebuilt,
-        &mut hours,
-        &mut windows,
-        &mut packed,
-    )
+#[derive(Drop)]
+pub struct Stores {
+    pub sessions: Vec<SessionRow>,
+    pub streams: Vec<StreamRow>,
+    pub objects: Vec<Object>,
+    pub held: Vec<u8>,
+    pub parts: Vec<u8>,
+    pub lengths: Vec<u32>,
+    pub rebuilt: Vec<u8>,
+    pub hours: Vec<u8>,
 }
 
-pub fn serve(rt: &(impl Input + Print + AllocGlobal)) -> io::Result<()> {
-    let alloc = rt.alloc();
-    let mut held = vec![in alloc; 0u8; 29245440]?;
-    let mut parts = vec![in alloc; 0u8; 8355840]?;
-    let mut lengths = vec![in alloc; 0u32; 16320]?;
-    lend(
-        alloc,
-        &mut rt.reader(),
-        &mut io::writer(rt),
-        &mut held,
-        &mut parts,
-        &mut lengths,
-    )
+impl Stores {
+    // The stores of held messages and of fragments have 114,688 and 33,024 bytes for each client, and are for 255 clients: a
+    // `setup` of more is refused as 16.
+    pub fn new(alloc: Global) -> Result<Self, AllocError> {
+        let nothing = Object::implicit(ObjectNumber(0), 0, 0);
+        Ok(Stores {
+            sessions: vec![in alloc; [0; 8]; 256]?,
+            streams: vec![in alloc; [0; 35]; 2048]?,
+            objects: vec![in alloc; nothing; 8192]?,
+            held: vec![in alloc; 0; 29245440]?,
+            parts: vec![in alloc; 0; 8355840]?,
+            lengths: vec![in alloc; 0; 16320]?,
+            rebuilt: vec![in alloc; 0; 32768]?,
+            hours: vec![in alloc; 0; 10080]?,
+        })
+    }
+
+    pub fn setup(
+        &mut self,
+        windows: &[WindowRow],
+        max_clients: usize,
+        timeout_ms: u64,
+    ) -> Result<Agent, Refusal> {
+        setup(
+            &mut self.sessions,
+            &mut self.streams,
+            &mut self.objects,
+            &self.held,
+            &self.parts,
+            &self.lengths,
+            &self.rebuilt,
+            &mut self.hours,
+            windows,
+            max_clients,
+            timeout_ms,
+        )
+    }
+
+    pub fn incoming(
+        &mut self,
+        out: &mut [u8],
+        datagram: &[u8],
+        agent: Agent,
+        given: Given,
+    ) -> Processed {
+        process_incoming(
+            &mut self.sessions,
+            &mut self.streams,
+            &mut self.objects,
+            &mut self.held,
+            &mut self.parts,
+            &mut self.lengths,
+            &mut self.rebuilt,
+            &self.hours,
+            out,
+            datagram,
+            agent,
+            given,
+        )
+    }
+
+    pub fn answered(
+        &mut self,
+        out: &mut [u8],
+        datagram: &[u8],
+        sample: &[u8],
+        agent: Agent,
+        answer: BridgeAnswer,
+    ) -> Processed {
+        process_answer(
+            &mut self.sessions,
+            &mut self.streams,
+            &mut self.objects,
+            &mut self.held,
+            &mut self.parts,
+            &mut self.lengths,
+            &mut self.rebuilt,
+            out,
+            datagram,
+            sample,
+            agent,
+            answer,
+        )
+    }
 }

@@ -17,18 +17,18 @@ use Rattle.sessions.specs.declared.session_streams.StreamNamed.{StreamNamed}
 use Rattle.sessions.specs.declared.session_streams.StreamNamed.TheVariants as stream
 use Rattle.sessions.specs.declared.session_streams.StreamPlace.{StreamPlace}
 use Rattle.sessions.specs.declared.session_streams.StreamPlace.TheVariants.{Have, Add, Full}
-use Rattle.sessions.specs.declared.table.Named.{Named}
-use Rattle.sessions.specs.declared.table.Named.TheVariants as named
+use Rattle.std.specs.Prelude.{Err, Ok, Result}
+use Rattle.codec.specs.declared.refusals.Refusal.{Refusal}
 
 -- a stream that is open has number n
-abbrev pub Numbered : ℕ → StreamNamed → StreamState → Type 0
-Numbered n stream.Open s = s.stream_id ≡ n
-Numbered n stream.NotOpen s = Unit {0}
-Numbered n stream.NotLive s = Unit {0}
-Numbered n (stream.Refused r) s = Unit {0}
+abbrev pub Numbered : ℕ → Result StreamNamed Refusal → StreamState → Type 0
+Numbered n (Ok stream.Open) s = s.stream_id ≡ n
+Numbered n (Ok stream.NotOpen) s = Unit {0}
+Numbered n (Ok stream.NotLive) s = Unit {0}
+Numbered n (Err r) s = Unit {0}
 
 module _ (sessions streams : List (List ℕ)) (id n : ℕ) where
-  abbrev NumberedAt : StreamPlace → Type 0
+  abbrev NumberedAt : Result StreamPlace Refusal → Type 0
   NumberedAt p = Numbered n (named_as p) (state_at p streams id)
 
   used : ℕ
@@ -37,14 +37,14 @@ module _ (sessions streams : List (List ℕ)) (id n : ℕ) where
   found : ℕ
   found = first_from (is_stream streams (first_stream id) n) used 0
 
-  placed : (b : Bool) → ltb found used ≡ b → NumberedAt (cond b (Have found) (cond (leb most_streams used) Full (Add used)))
+  placed : (b : Bool) → ltb found used ≡ b → NumberedAt (cond b (Ok (Have found)) (cond (leb most_streams used) (Ok Full) (Ok (Add used))))
   unfolding found
   placed true e =
       let l = ltb-true found used e in
       eqb-true _ n (found_from (is_stream streams (first_stream id) n) used 0 (omega (arith, l)))
   placed false e = by (leb most_streams used)
     where
-      by : (b : Bool) → NumberedAt (cond b Full (Add used))
+      by : (b : Bool) → NumberedAt (cond b (Ok Full) (Ok (Add used)))
       by true = tt
       by false = tt
 
@@ -52,7 +52,7 @@ module _ (sessions streams : List (List ℕ)) (id n : ℕ) where
   unfolding stream_place used found
   read_number = by (streams_named sessions (length streams) id)
     where
-      by : (w : Named) → NumberedAt (place_by w sessions streams id n)
-      by named.Live = placed (ltb found used) refl
-      by named.NotLive = tt
-      by (named.Refused r) = tt
+      by : (w : Result Bool Refusal) → NumberedAt (place_by w sessions streams id n)
+      by (Ok true) = placed (ltb found used) refl
+      by (Ok false) = tt
+      by (Err r) = tt

@@ -18,8 +18,6 @@ use Rattle.sessions.specs.Fragments.{parts_stretch, own_lengths}
 use Rattle.sessions.specs.Limits.{store_kept, limits_of}
 use Rattle.sessions.specs.View.{Tables}
 use Rattle.sessions.specs.Calls.{set_up_tables, Call, set_up, create, touch, remove, sweep, put, delete, open_stream, write_stream, send, gather, after_call, after_calls, Given, AllGiven, Lasting, SoundTables, LeadsTo}
-use Rattle.sessions.specs.declared.limits.Limits.TheVariants.{Within}
-use Rattle.sessions.specs.declared.setup.SetUp.TheVariants as setup
 use Rattle.sessions.proofs.Empty.{long}
 use Rattle.sessions.proofs.limits.Laws.{fragments_kept_lem}
 use Rattle.sessions.proofs.StreamBack.{row_sound}
@@ -27,6 +25,7 @@ use Rattle.sessions.proofs.SoundStreams.{sent_sound}
 use Rattle.sessions.proofs.Steps as steps
 use Rattle.sessions.proofs.StepsSending.{send_led}
 use Rattle.sessions.proofs.StepsFragments.{gather_led}
+use Rattle.std.specs.Prelude.{Ok}
 
 module _ (P : StreamState → Type 0) (lasting : Lasting P) (most : ℕ) where
   -- one call
@@ -65,17 +64,17 @@ module _ (P : StreamState → Type 0) (lasting : Lasting P) (most : ℕ) where
       then_leads t (after_call c t) (after_calls cs (after_call c t)) a (calls_lead cs g.1 (after_call c t) a.sound)
 
   -- "An empty agent is one just set up": whatever stood in the stores that set-up accepts, any calls behind it find the tables sound
-  pub from_set_up : (t : Tables) (max next : ℕ) → set_up_of (length t.sessions) (length t.streams) (length t.objects) (length t.held) (length t.parts) (length t.lengths) (length t.rebuilt) max ≡ setup.Ready next → max ≡ most
-      → (cs : List Call) → AllGiven P most cs → LeadsTo P most t (after_calls cs (set_up_tables (setup.Ready next) t))
+  pub from_set_up : (t : Tables) (max next : ℕ) → set_up_of (length t.sessions) (length t.streams) (length t.objects) (length t.held) (length t.parts) (length t.lengths) (length t.rebuilt) max ≡ Ok next → max ≡ most
+      → (cs : List Call) → AllGiven P most cs → LeadsTo P most t (after_calls cs (set_up_tables (Ok next) t))
   from_set_up t max next e m cs g =
-      let u = set_up_tables (setup.Ready next) t in
+      let u = set_up_tables (Ok next) t in
       let l = long t.sessions t.streams t.objects (length t.held) (length t.parts) (length t.lengths) (length t.rebuilt) max next e in
       let a = steps.ready_led P lasting most t max next l (rw (← m) l.held_long) (rw (← m) l.parts_long) (rw (← m) l.lengths_long) in
       then_leads t u (after_calls cs u) a (calls_lead cs g u a.sound)
 
   -- "or refuses as 16 .. where a count, length or place in them exceeds its limit": on sound tables none does
   pub within_limits : ((s : StreamState) → P s → in_limits s ≡ true) → (t : Tables) → SoundTables P most t → most ≤ 255 → (id n : ℕ) → id < 256
-      → limits_of t.sessions t.streams t.objects (length t.held) (length t.parts) t.lengths (length t.rebuilt) most id n ≡ Within
+      → limits_of t.sessions t.streams t.objects (length t.held) (length t.parts) t.lengths (length t.rebuilt) most id n ≡ (Ok tt)
   unfolding limits_of stores_fit
   within_limits short t d few id n h =
       rw (

@@ -15,13 +15,11 @@ use Rattle.sessions.specs.Opening.{after, live_of, created_of, opened_rows, open
 use Rattle.sessions.specs.Answers.{set_up_answer, created_answer, named_answer}
 use Rattle.sessions.specs.Setup.{empty_sessions, empty_streams, set_up_of}
 use Rattle.sessions.specs.declared.objects.Object.{Object}
-use Rattle.sessions.specs.declared.opening.Created.TheVariants.{Opened}
-use Rattle.sessions.specs.declared.setup.SetUp.{SetUp}
-use Rattle.sessions.specs.declared.setup.SetUp.TheVariants.{Ready, Refused}
-use Rattle.sessions.specs.declared.table.Named.TheVariants.{Live}
 use Rattle.sessions.proofs.Counted.{free_elsewhere, live_changed, opens_at}
 use Rattle.sessions.proofs.Empty.{none_live, live_none, first_opened, rows_long, streams_long}
 use Rattle.sessions.proofs.Reached.{named_when, created_when}
+use Rattle.std.specs.Prelude.{Err, Ok, Result}
+use Rattle.codec.specs.declared.refusals.Refusal.{Refusal}
 
 -- ---- openings one behind the other
 
@@ -36,7 +34,7 @@ opens t next = created_answer (created_of t.sessions t.streams 8 next)
 
 -- what it leaves, with that key and time
 abbrev pub opened : ℕ → Stores → ℕ → ℕ → Stores
-opened id t key time = record { sessions = opened_rows (Opened id (after id)) t.sessions key time; streams = opened_streams (Opened id (after id)) t.streams }
+opened id t key time = record { sessions = opened_rows (Ok (id, (after id))) t.sessions key time; streams = opened_streams (Ok (id, (after id))) t.streams }
 
 abbrev pub without : ℕ → Stores → Stores
 without id t = record { sessions = ended_rows t.sessions id; streams = t.streams }
@@ -104,7 +102,7 @@ module _ (t : Stores) (k n : ℕ) (u : Upto t k n) (low : 1 ≤ n) (high : n ≤
 
 -- a live session below them is removed
 module _ (t : Stores) (k n id : ℕ) (u : Upto t k n) (low : 1 ≤ id) (below : id < n) (high : n ≤ 255) (is : is_free t.sessions id ≡ false) where
-  removes : named_of t.sessions id ≡ Live
+  removes : named_of t.sessions id ≡ (Ok true)
   removes = named_when t.sessions id u.sessions_long ∙ rw is refl
 
   is_ended : without id t ≡ record { sessions = set t.sessions id (row_of ended_session); streams = t.streams }
@@ -124,7 +122,7 @@ module _ (t : Stores) (k n id : ℕ) (u : Upto t k n) (low : 1 ≤ id) (below : 
 
 -- ---- the case
 
-module _ (sessions streams : List (List ℕ)) (objects : List Object) (held parts lengths rebuilt next : ℕ) (ok : set_up_of (length sessions) (length streams) (length objects) held parts lengths rebuilt 8 ≡ Ready next) where
+module _ (sessions streams : List (List ℕ)) (objects : List Object) (held parts lengths rebuilt next : ℕ) (ok : set_up_of (length sessions) (length streams) (length objects) held parts lengths rebuilt 8 ≡ Ok next) where
   from_none : Upto (empty sessions streams) 0 1
   from_none =
       record {
@@ -150,9 +148,9 @@ module _ (sessions streams : List (List ℕ)) (objects : List Object) (held part
         opens_next (without 2 (three t key time)) 2 4 (one_less (three t key time) 3 4 2 w (omega arith) (omega arith) (omega arith) still) (omega arith) (omega arith) (omega arith),
       )
 
-ready : (r : SetUp) (next : ℕ) → set_up_answer r ≡ gives next → r ≡ Ready next
-ready (Ready n) next e = let q : n ≡ next = cc in ap Ready q
-ready (Refused r) next e = let z : ◌≡◌ {A = ℕ} 0 1 = cc in absurd (omega arith)
+ready : (r : Result ℕ Refusal) (next : ℕ) → set_up_answer r ≡ gives next → r ≡ Ok next
+ready (Ok n) next e = let q : n ≡ next = cc in ap Ok q
+ready (Err r) next e = let z : ◌≡◌ {A = ℕ} 0 1 = cc in absurd (omega arith)
 
 pub cases : Table
 cases =

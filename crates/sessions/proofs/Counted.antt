@@ -11,7 +11,7 @@ use lib.ListN.{set}
 use lib.Seq.{get_or-set_other}
 use Rattle.sessions.specs.Table.{is_free}
 use Rattle.sessions.specs.Opening.{after, live_from, live_of, free_from, free_of, chosen_of}
-use Rattle.sessions.specs.declared.opening.Created.TheVariants.{Opened}
+use Rattle.std.specs.Prelude.{Ok}
 
 pub none_counted : (rows : List (List ℕ)) (n i : ℕ) → ((j : ℕ) → j < i + n → is_free rows j ≡ true) → live_from (is_free rows) i n ≡ 0
 unfolding live_from
@@ -54,6 +54,6 @@ module _ (rows : List (List ℕ)) (id : ℕ) (row : List ℕ) where
 
 -- ---- where the id at the pointer is free, the next session gets it
 
-pub opens_at : (rows : List (List ℕ)) (max next : ℕ) → live_of rows < max → 1 ≤ next → is_free rows next ≡ true → chosen_of rows max next ≡ Opened next (after next)
+pub opens_at : (rows : List (List ℕ)) (max next : ℕ) → live_of rows < max → 1 ≤ next → is_free rows next ≡ true → chosen_of rows max next ≡ Ok (next, (after next))
 unfolding chosen_of free_of free_from
 opens_at rows max next h a e = rw (lt-ltb (live_of rows) max h, e, ne_eqb next 0 (λ z. omega arith)) refl

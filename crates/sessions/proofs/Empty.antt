@@ -4,7 +4,6 @@ use mathlib.Core.Path.{◌≡◌, refl, ap, ◌∙◌}
 use mathlib.Core.Bool.{Bool, true, false, cond}
 use mathlib.Core.List.{List, [], ◌∷◌}
 use native.Mathlib.Omega.{arith}
-use mathlib.Core.Option.{none}
 use borrow.Author.Tests.{le-leb}
 use lib.ListN.{length}
 use Rattle.codec.specs.Answers.{gives}
@@ -15,10 +14,10 @@ use Rattle.sessions.specs.Opening.{live_of, counted_of, created_of}
 use Rattle.sessions.specs.Answers.{got_answer, counted_answer, created_answer}
 use Rattle.sessions.specs.Setup.{no_stream, empty_sessions, empty_streams, first_id, set_up_of}
 use Rattle.sessions.specs.declared.objects.Object.{Object}
-use Rattle.sessions.specs.declared.setup.SetUp.TheVariants.{Ready, Refused}
 use Rattle.sessions.proofs.Counted.{none_counted, opens_at}
 use Rattle.sessions.proofs.Reached.{named_when, created_when}
 use Rattle.sessions.proofs.setup.Laws.{Long, accepts, cleared_at, cleared_length}
+use Rattle.std.specs.Prelude.{Err, Ok, None}
 
 -- id 0 included
 pub none_live : (sessions : List (List ℕ)) (id : ℕ) → id < 256 → is_free (empty_sessions sessions) id ≡ true
@@ -29,8 +28,8 @@ unfolding live_of
 live_none sessions = none_counted (empty_sessions sessions) 255 1 (λ j h. none_live sessions j (omega arith))
 
 module _ (sessions streams : List (List ℕ)) (objects : List Object) (held parts lengths rebuilt max next : ℕ)
-    (ok : set_up_of (length sessions) (length streams) (length objects) held parts lengths rebuilt max ≡ Ready next) where
-  by_fits : (b : Bool) → cond b (Ready first_id) (Refused OverLimit) ≡ Ready next → (b ≡ true) × (next ≡ first_id)
+    (ok : set_up_of (length sessions) (length streams) (length objects) held parts lengths rebuilt max ≡ Ok next) where
+  by_fits : (b : Bool) → cond b (Ok first_id) (Err OverLimit) ≡ Ok next → (b ≡ true) × (next ≡ first_id)
   by_fits true e = (refl, cc)
   by_fits false e = let z : ◌≡◌ {A = ℕ} 0 1 = cc in absurd (omega arith)
 
@@ -51,8 +50,8 @@ module _ (sessions streams : List (List ℕ)) (objects : List Object) (held part
   pub streams_long : 2048 ≤ length (empty_streams streams)
   streams_long = rw (cleared_length no_stream 2048 streams long.streams_long) long.streams_long
 
-  -- no id names a session, none is counted, and the first one opened gets id 1
-  pub gets_none : (id : ℕ) → id < 256 → got_answer (got_of (empty_sessions sessions) id) ≡ gives none
+  -- no id names a session, None is counted, and the first one opened gets id 1
+  pub gets_none : (id : ℕ) → id < 256 → got_answer (got_of (empty_sessions sessions) id) ≡ gives None
   unfolding got_of
   gets_none id h = rw (named_when (empty_sessions sessions) id rows_long, none_live sessions id h) refl
 

@@ -3,7 +3,6 @@ use Prim.Native.Nat.{ℕ, zero, suc, ◌+◌, ◌-◌, ◌<◌, ◌≤◌}
 use mathlib.Core.Path.{◌≡◌, refl, sym, ap, ◌∙◌, subst}
 use mathlib.Core.Logic.{◌≢◌}
 use mathlib.Core.Bool.{Bool, true, false, cond}
-use mathlib.Core.Option.{Option, none, some}
 use mathlib.Core.List.{List, [], ◌∷◌, ◌++◌, map-append}
 use native.Mathlib.Omega.{arith}
 use borrow.Author.Tests.{eqb-true, eqb-false, leb-true, leb-false}
@@ -14,9 +13,8 @@ use Rattle.streams.specs.View.{Kept, fresh_of}
 use Rattle.sessions.specs.Dependants.{has_dependant}
 use Rattle.sessions.specs.Removal.{remove_in}
 use Rattle.sessions.specs.View.{Entry, blank_entry, one_past, place_in, find_in, put_entry, put_in, drop_at, drop_in, stream_in, open_if, open_in, write_in, Distinct, object_numbers, stream_numbers}
-use Rattle.sessions.specs.declared.objects.Place.{Place}
-use Rattle.sessions.specs.declared.objects.Place.TheVariants.{At, Nowhere}
 use Rattle.sessions.proofs.Parts.{map_set, map_take}
+use Rattle.std.specs.Prelude.{None, Some, Option}
 
 -- ---- numbers
 
@@ -114,9 +112,9 @@ set_same (n ∷ ns) (suc k) = ap (λ (l : List ℕ). n ∷ l) (set_same ns k)
 -- ---- objects
 
 -- an object that is found is in the list and has that number; where none is found, none has it
-abbrev pub FoundIn : List Entry → ℕ → Place → Type 0
-FoundIn es n (At k) = (k < length es) × ((get_or es k blank_entry).number ≡ n)
-FoundIn es n Nowhere = (i : ℕ) → i < length es → (get_or es i blank_entry).number ≢ n
+abbrev pub FoundIn : List Entry → ℕ → Option ℕ → Type 0
+FoundIn es n (Some k) = (k < length es) × ((get_or es k blank_entry).number ≡ n)
+FoundIn es n None = (i : ℕ) → i < length es → (get_or es i blank_entry).number ≢ n
 
 pub place_found : (es : List Entry) (n : ℕ) → FoundIn es n (place_in es n)
 place_found [] n = λ i h. let z : ⊥ = omega arith in absurd z
@@ -126,10 +124,10 @@ place_found (e ∷ es) n = by (eqb e.number n) refl (place_in es n) (place_found
     other q f zero h = q
     other q f (suc i) h = f i (omega arith)
 
-    by : (b : Bool) → eqb e.number n ≡ b → (p : Place) → FoundIn es n p → FoundIn (e ∷ es) n (cond b (At 0) (one_past p))
+    by : (b : Bool) → eqb e.number n ≡ b → (p : Option ℕ) → FoundIn es n p → FoundIn (e ∷ es) n (cond b (Some 0) (one_past p))
     by true q p f = (omega arith, eqb-true e.number n q)
-    by false q (At k) f = (omega arith, f.1)
-    by false q Nowhere f = other (eqb-false e.number n q) f
+    by false q (Some k) f = (omega arith, f.1)
+    by false q None f = other (eqb-false e.number n q) f
 
 module _ (es : List Entry) where
   number_at : (k : ℕ) → get_or (object_numbers es) k 0 ≡ (get_or es k blank_entry).number
@@ -143,7 +141,7 @@ module _ (es : List Entry) where
   put_numbers k e q =
       map_set (λ (x : Entry). x.number) es k e ∙ ap (set (object_numbers es) k) (sym (number_at k ∙ q)) ∙ set_same (object_numbers es) k
 
-  drop_numbers : (k : ℕ) → object_numbers (drop_at es (At k)) ≡ take (length (object_numbers es) - 1) (set (object_numbers es) k (get_or (object_numbers es) (length (object_numbers es) - 1) 0))
+  drop_numbers : (k : ℕ) → object_numbers (drop_at es (Some k)) ≡ take (length (object_numbers es) - 1) (set (object_numbers es) k (get_or (object_numbers es) (length (object_numbers es) - 1) 0))
   drop_numbers k =
       map_take (λ (x : Entry). x.number) (length es - 1) (set es k (get_or es (length es - 1) blank_entry))
       ∙ ap (take (length es - 1)) (map_set (λ (x : Entry). x.number) es k (get_or es (length es - 1) blank_entry) ∙ ap (set (object_numbers es) k) (sym (number_at (length es - 1))))
@@ -153,18 +151,18 @@ module _ (es : List Entry) where
     pub put_distinct : (e : Entry) → Distinct (object_numbers (put_in es e))
     put_distinct e = by (place_in es e.number) (place_found es e.number)
       where
-        by : (p : Place) → FoundIn es e.number p → Distinct (object_numbers (put_entry es p e))
-        by (At k) f = subst Distinct (sym (put_numbers k e f.1)) d
-        by Nowhere f =
+        by : (p : Option ℕ) → FoundIn es e.number p → Distinct (object_numbers (put_entry es p e))
+        by (Some k) f = subst Distinct (sym (put_numbers k e f.1)) d
+        by None f =
             subst Distinct (sym (map-append (λ (x : Entry). x.number) es (e ∷ [])))
             (distinct_more (object_numbers es) d e.number (λ i h q. f i (rw numbers_length at h) (sym (number_at i) ∙ q)))
 
     pub drop_distinct : (n : ℕ) → Distinct (object_numbers (drop_in es n))
     drop_distinct n = by (place_in es n) (place_found es n)
       where
-        by : (p : Place) → FoundIn es n p → Distinct (object_numbers (drop_at es p))
-        by (At k) f = subst Distinct (sym (drop_numbers k)) (distinct_less (object_numbers es) d k (rw numbers_length f.0))
-        by Nowhere f = d
+        by : (p : Option ℕ) → FoundIn es n p → Distinct (object_numbers (drop_at es p))
+        by (Some k) f = subst Distinct (sym (drop_numbers k)) (distinct_less (object_numbers es) d k (rw numbers_length f.0))
+        by None f = d
 
     pub remove_distinct : (n : ℕ) → Distinct (object_numbers (remove_in es n))
     remove_distinct n = by (has_dependant es (find_in es n))
@@ -177,13 +175,13 @@ module _ (es : List Entry) where
 
 module _ {A : Type 0} where
   -- a number that no stream has
-  none_in : (ks : List (Kept A)) (n : ℕ) → stream_in ks n ≡ none → (i : ℕ) → i < length (stream_numbers ks) → get_or (stream_numbers ks) i 0 ≢ n
+  none_in : (ks : List (Kept A)) (n : ℕ) → stream_in ks n ≡ None → (i : ℕ) → i < length (stream_numbers ks) → get_or (stream_numbers ks) i 0 ≢ n
   unfolding stream_in
   none_in [] n e i h = let z : ⊥ = omega arith in absurd z
   none_in (k ∷ ks) n e i h = by (none_in ks n) (eqb k.number n) refl e i h
     where
-      by : (stream_in ks n ≡ none → (i : ℕ) → i < length (stream_numbers ks) → get_or (stream_numbers ks) i 0 ≢ n)
-          → (b : Bool) → eqb k.number n ≡ b → cond b (some k) (stream_in ks n) ≡ none → (i : ℕ) → i < length (stream_numbers (k ∷ ks)) → get_or (stream_numbers (k ∷ ks)) i 0 ≢ n
+      by : (stream_in ks n ≡ None → (i : ℕ) → i < length (stream_numbers ks) → get_or (stream_numbers ks) i 0 ≢ n)
+          → (b : Bool) → eqb k.number n ≡ b → cond b (Some k) (stream_in ks n) ≡ None → (i : ℕ) → i < length (stream_numbers (k ∷ ks)) → get_or (stream_numbers (k ∷ ks)) i 0 ≢ n
       by later true q z i h = let o : ◌≡◌ {A = ℕ} 0 1 = cc in absurd (omega arith)
       by later false q z zero h = eqb-false k.number n q
       by later false q z (suc i) h = later z i (omega arith)
@@ -191,13 +189,13 @@ module _ {A : Type 0} where
   pub open_distinct : (ks : List (Kept A)) (n : ℕ) → Distinct (stream_numbers ks) → Distinct (stream_numbers (open_in ks n))
   open_distinct ks n d = by (stream_in ks n) refl
     where
-      more : (b : Bool) → stream_in ks n ≡ none → Distinct (stream_numbers (cond b (ks ++ (fresh_of n ∷ [])) ks))
+      more : (b : Bool) → stream_in ks n ≡ None → Distinct (stream_numbers (cond b (ks ++ (fresh_of n ∷ [])) ks))
       more true e = subst Distinct (sym (map-append (λ (k : Kept A). k.number) ks (fresh_of n ∷ []))) (distinct_more (stream_numbers ks) d n (none_in ks n e))
       more false e = d
 
       by : (o : Option (Kept A)) → stream_in ks n ≡ o → Distinct (stream_numbers (open_if o ks n))
-      by (some k) e = d
-      by none e = more (ltb (length ks) 8) e
+      by (Some k) e = d
+      by None e = more (ltb (length ks) 8) e
 
   -- a stream that is written back leaves every number what it is
   pub write_numbers : (ks : List (Kept A)) (k : Kept A) → stream_numbers (write_in ks k) ≡ stream_numbers ks

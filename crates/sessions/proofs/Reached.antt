@@ -2,7 +2,6 @@
 use Prim.Native.Nat.{ℕ, ◌<◌, ◌≤◌}
 use mathlib.Core.Path.{◌≡◌, refl, sym, ap, ◌∙◌}
 use mathlib.Core.Bool.{Bool, true, false, cond}
-use mathlib.Core.Option.{none, some}
 use mathlib.Core.List.{List}
 use borrow.Author.Tests.{le-leb, lt-ltb}
 use lib.ListN.{length}
@@ -11,15 +10,15 @@ use Rattle.sessions.specs.Opening.{live_from, free_from, open_fits, chosen_of, c
 use Rattle.sessions.specs.SessionObjects.{used_of, objects_named}
 use Rattle.sessions.specs.SessionStreams.{streams_used, streams_named}
 use Rattle.sessions.specs.View.{Tables, table_part, session_shown, absent, free_ids}
-use Rattle.sessions.specs.declared.table.Named.TheVariants.{Live, NotLive}
 use Rattle.sessions.proofs.table.Laws.{reach_named}
+use Rattle.std.specs.Prelude.{Ok, None, Some}
 
 -- ---- an id that is not live shows no session, and the other way round
 
 pub free_view : (t : Tables) (id : ℕ) → is_free t.sessions id ≡ free_ids t id
 free_view t id = by (is_free t.sessions id)
   where
-    by : (b : Bool) → b ≡ absent (cond b none (some (session_shown id (table_part t id))))
+    by : (b : Bool) → b ≡ absent (cond b None (Some (session_shown id (table_part t id))))
     by true = refl
     by false = refl
 
@@ -36,19 +35,19 @@ next_view t i n = ap (λ (free : ℕ → Bool). free_from free i n) (free_ids_le
 -- ---- a table of 256 rows
 
 module _ (sessions : List (List ℕ)) (id : ℕ) (long : 256 ≤ length sessions) where
-  pub named_when : named_of sessions id ≡ cond (is_free sessions id) NotLive Live
+  pub named_when : named_of sessions id ≡ cond (is_free sessions id) (Ok false) (Ok true)
   unfolding named_of
   named_when = rw (le-leb 256 (length sessions) long) refl
 
-  live_named : is_free sessions id ≡ false → named_of sessions id ≡ Live
+  live_named : is_free sessions id ≡ false → named_of sessions id ≡ (Ok true)
   live_named e = named_when ∙ rw e refl
 
   -- a live session's objects and streams, in stores as long as they must be
-  pub objects_live : (objects : ℕ) → 8192 ≤ objects → used_of sessions id ≤ 32 → is_free sessions id ≡ false → objects_named sessions objects id ≡ Live
+  pub objects_live : (objects : ℕ) → 8192 ≤ objects → used_of sessions id ≤ 32 → is_free sessions id ≡ false → objects_named sessions objects id ≡ (Ok true)
   unfolding objects_named
   objects_live objects s u e = sym (reach_named sessions id (used_of sessions id) 32 objects 8192 s u) ∙ live_named e
 
-  pub streams_live : (streams : ℕ) → 2048 ≤ streams → streams_used sessions id ≤ 8 → is_free sessions id ≡ false → streams_named sessions streams id ≡ Live
+  pub streams_live : (streams : ℕ) → 2048 ≤ streams → streams_used sessions id ≤ 8 → is_free sessions id ≡ false → streams_named sessions streams id ≡ (Ok true)
   unfolding streams_named
   streams_live streams s u e = sym (reach_named sessions id (streams_used sessions id) 8 streams 2048 s u) ∙ live_named e
 

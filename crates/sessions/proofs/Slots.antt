@@ -12,7 +12,6 @@ use lib.Seq.{get_or-set_same, get_or-set_other}
 use Rattle.streams.specs.Places.{first_from}
 use Rattle.streams.proofs.places.Laws.{found_from, before_from}
 use Rattle.sessions.specs.Table.{session_at, is_free}
-use Rattle.sessions.specs.declared.table.ClientSession.{ClientSession}
 use Rattle.sessions.specs.Opening.{live_from, live_of, has_slot, taken_from, slot_taken, free_slot, marked_at, marked_from, unmarked}
 
 module _ (rows : List (List ℕ)) where
@@ -108,11 +107,6 @@ module _ (rows : List (List ℕ)) where
 
   -- ---- as the code finds it: the slots of live sessions are marked
 
-  -- by the session that was read
-  pub mark_by : (id : ℕ) (taken : List ℕ) (s : ClientSession) → s ≡ session_at rows id → (b : Bool) → eqb s.live 0 ≡ b → cond b taken (set taken s.slot 1) ≡ marked_at rows id taken
-  mark_by id taken s e b q =
-      (λ i. cond (sym q i) taken (set taken s.slot 1)) ∙ ap (λ (x : ClientSession). cond (eqb x.live 0) taken (set taken x.slot 1)) e
-
   pub marked_length : (n id : ℕ) (taken : List ℕ) → length (marked_from rows n id taken) ≡ length taken
   unfolding marked_from
   marked_length zero id taken = refl
@@ -147,22 +141,6 @@ module _ (rows : List (List ℕ)) where
   marked_more (suc m) n i j k taken d e =
       let e' : k ≡ suc (m + n) = omega arith in
       rw e' (marked_more m n (suc i) j (m + n) (marked_at rows i taken) (omega arith) refl)
-
-  marked_step : (n i j : ℕ) (taken more : List ℕ) → more ≡ marked_at rows i taken → j ≡ suc i → marked_from rows n j more ≡ marked_from rows (suc n) i taken
-  unfolding marked_from
-  marked_step n i j taken more e f = rw (f, e) refl
-
-  -- five ids, one after the other
-  pub marked_five : (i : ℕ) (z a b c d e : List ℕ)
-      → a ≡ marked_at rows i z → b ≡ marked_at rows (i + 1) a → c ≡ marked_at rows (i + 2) b → d ≡ marked_at rows (i + 3) c → e ≡ marked_at rows (i + 4) d
-      → e ≡ marked_from rows 5 i z
-  marked_five i z a b c d e p q r s t =
-      sym (marked_none 0 (i + 5) e refl)
-      ∙ marked_step 0 (i + 4) (i + 5) d e t (omega arith)
-      ∙ marked_step 1 (i + 3) (i + 4) c d s (omega arith)
-      ∙ marked_step 2 (i + 2) (i + 3) b c r (omega arith)
-      ∙ marked_step 3 (i + 1) (i + 2) a b q (omega arith)
-      ∙ marked_step 4 i (i + 1) z a p (omega arith)
 
   -- a place is marked where it was, or where a session has it
   marked_one : (id k : ℕ) (taken : List ℕ) → k < length taken → get_or (marked_at rows id taken) k 0 ≡ cond (has_slot rows k id) 1 (get_or taken k 0)

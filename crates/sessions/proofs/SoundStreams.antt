@@ -2,13 +2,10 @@
 use Prim.Native.Nat.{ℕ, ◌<◌}
 use mathlib.Core.Path.{◌≡◌, refl, sym, ap, ◌∙◌}
 use mathlib.Core.Bool.{Bool, true, false, cond}
-use mathlib.Core.Option.{Option, none, some}
 use native.Mathlib.Omega.{arith}
 use borrow.Author.Tests.{eqb-true}
 use lib.Dec.{eqb}
 use Rattle.streams.specs.declared.state.StreamState.{StreamState}
-use Rattle.streams.specs.declared.sent.Slot.{Slot}
-use Rattle.streams.specs.declared.sent.Slot.TheVariants as slot
 use Rattle.streams.specs.Sequence.{seq_lt}
 use Rattle.streams.specs.State.{new_stream}
 use Rattle.streams.specs.Sent.{alloc_of, slot_for, record_at, record_of}
@@ -24,6 +21,8 @@ use Rattle.streams.proofs.Kept.{new_kept, alloc_kept, drop_kept, record_kept_len
 use Rattle.sessions.specs.Streams.{row_from, stream_of, stream_row}
 use Rattle.sessions.specs.Calls.{Lasting, SoundStream}
 use Rattle.sessions.proofs.StreamBack.{back_agrees, row_sound}
+use Rattle.std.specs.Prelude.{Err, None, Ok, Result, Some, Option}
+use Rattle.codec.specs.declared.refusals.Refusal.{Refusal}
 
 -- ---- soundness
 
@@ -34,10 +33,10 @@ sent_sound s len room d = alloc_sound (record_of s n len room).state (by (slot_f
     n : ℕ
     n = s.next_send_seq
 
-    by : (a : Slot) → slot_for s n len room ≡ a → Sound (record_at a s n len)
-    by (slot.At p) e = let k = slot_at s n len room p e in record_sound_lem s d n len p k.place k.low k.short
-    by slot.Nowhere e = d
-    by (slot.Refused r) e = d
+    by : (a : Result (Option ℕ) Refusal) → slot_for s n len room ≡ a → Sound (record_at a s n len)
+    by (Ok (Some p)) e = let k = slot_at s n len room p e in record_sound_lem s d n len p k.place k.low k.short
+    by (Ok None) e = d
+    by (Err r) e = d
 
 -- ---- numbers of 16 bits
 
@@ -45,11 +44,11 @@ sent_sound s len room d = alloc_sound (record_of s n len room).state (by (slot_f
 bits_by : (t : StreamState) (held : ℕ → Option ℕ) → ((m : ℕ) → held_by length_in t m ≡ held m) → t.next_send_seq < 65536 → ((m : ℕ) → present (held m) ≡ true → m < 65536) → SixteenBits t
 bits_by t held same next low = record { next = next; held = λ m h. low m (ap (λ (o : Option ℕ). present o) (sym (same m)) ∙ read_present t m length_in ∙ h) }
 
-none_held : (m : ℕ) → present {A = ℕ} none ≡ true → m < 65536
+none_held : (m : ℕ) → present {A = ℕ} None ≡ true → m < 65536
 none_held m h = absurd (never h refl)
 
 new_bits : (n : ℕ) → SixteenBits (new_stream n)
-new_bits n = bits_by (new_stream n) (λ m. none) (λ m. ap (λ (k : Kept ℕ). k.held m) (new_kept length_in n)) (omega arith) none_held
+new_bits n = bits_by (new_stream n) (λ m. None) (λ m. ap (λ (k : Kept ℕ). k.held m) (new_kept length_in n)) (omega arith) none_held
 
 module _ (s : StreamState) (bits : SixteenBits s) where
   low : (m : ℕ) → present (held_by length_in s m) ≡ true → m < 65536
@@ -62,9 +61,9 @@ module _ (s : StreamState) (bits : SixteenBits s) where
   drop_bits : (first : ℕ) → SixteenBits (drop_before s first)
   unfolding drop_before
   drop_bits first =
-      bits_by (drop_before s first) (λ m. cond (seq_lt m first) none (held_by length_in s m)) (λ m. ap (λ (k : Kept ℕ). k.held m) (drop_kept length_in s first)) bits.next (λ m h. by m (seq_lt m first) h)
+      bits_by (drop_before s first) (λ m. cond (seq_lt m first) None (held_by length_in s m)) (λ m. ap (λ (k : Kept ℕ). k.held m) (drop_kept length_in s first)) bits.next (λ m h. by m (seq_lt m first) h)
     where
-      by : (m : ℕ) (b : Bool) → present (cond b none (held_by length_in s m)) ≡ true → m < 65536
+      by : (m : ℕ) (b : Bool) → present (cond b None (held_by length_in s m)) ≡ true → m < 65536
       by m true h = none_held m h
       by m false h = low m h
 
@@ -76,25 +75,25 @@ module _ (s : StreamState) (bits : SixteenBits s) where
       n : ℕ
       n = s.next_send_seq
 
-      behind : Slot → Kept ℕ
+      behind : Result (Option ℕ) Refusal → Kept ℕ
       behind a = alloc_in (record_in a n len (kept_of length_in s))
 
       is : kept_of length_in (alloc_of (record_of s n len room).state).state ≡ behind (slot_for s n len room)
       is = alloc_kept length_in (record_of s n len room).state ∙ ap (λ (k : Kept ℕ). alloc_in k) (record_kept_length s d n len room)
 
-      by_next : (a : Slot) → (behind a).next < 65536
-      by_next (slot.At p) = omega arith
-      by_next slot.Nowhere = omega arith
-      by_next (slot.Refused r) = omega arith
+      by_next : (a : Result (Option ℕ) Refusal) → (behind a).next < 65536
+      by_next (Ok (Some p)) = omega arith
+      by_next (Ok None) = omega arith
+      by_next (Err r) = omega arith
 
-      by_held : (a : Slot) (m : ℕ) → present ((behind a).held m) ≡ true → m < 65536
-      by_held (slot.At p) m h = by (eqb m n) refl h
+      by_held : (a : Result (Option ℕ) Refusal) (m : ℕ) → present ((behind a).held m) ≡ true → m < 65536
+      by_held (Ok (Some p)) m h = by (eqb m n) refl h
         where
-          by : (b : Bool) → eqb m n ≡ b → present (cond b (some len) (held_by length_in s m)) ≡ true → m < 65536
+          by : (b : Bool) → eqb m n ≡ b → present (cond b (Some len) (held_by length_in s m)) ≡ true → m < 65536
           by true e h = omega (arith, eqb-true m n e, bits.next)
           by false e h = low m h
-      by_held slot.Nowhere m h = low m h
-      by_held (slot.Refused r) m h = low m h
+      by_held (Ok None) m h = low m h
+      by_held (Err r) m h = low m h
 
 -- ---- both
 

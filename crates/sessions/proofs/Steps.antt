@@ -3,7 +3,6 @@ use Prim.Native.Nat.{ℕ, ◌+◌, ◌-◌, ◌<◌, ◌≤◌}
 use mathlib.Core.Path.{◌≡◌, refl, sym, ap, ◌∙◌, subst}
 use mathlib.Core.Logic.{◌≢◌}
 use mathlib.Core.Bool.{Bool, true, false, cond}
-use mathlib.Core.Option.{none}
 use mathlib.Core.List.{List, []}
 use native.Mathlib.Omega.{arith}
 use borrow.Author.Tests.{eqb-true, eqb-false, ltb-true, leb-true, leb-false}
@@ -32,21 +31,14 @@ use Rattle.sessions.specs.SessionStreams.{streams_used, streamed_session, stream
 use Rattle.sessions.specs.View.{Tables, Part, Entry, KeptStream, entry_of, listed, shown_from, opened, stream_rows, table_part, stream_in, Distinct, object_numbers, stream_numbers}
 use Rattle.sessions.specs.Calls.{with_sessions, set_up_tables, create_tables, put_tables, drop_tables, open_tables, write_tables, Lasting, SoundPart, SoundSlots, SoundTables, LeadsTo}
 use Rattle.sessions.specs.declared.objects.Object.{Object}
-use Rattle.sessions.specs.declared.objects.Place.{Place}
-use Rattle.sessions.specs.declared.objects.Place.TheVariants.{At, Nowhere}
 use Rattle.sessions.specs.declared.objects.Stored.{Stored}
 use Rattle.sessions.specs.declared.objects.Stored.TheVariants as stored
 use Rattle.sessions.specs.declared.objects.Taken.{Taken}
 use Rattle.sessions.specs.declared.objects.Taken.TheVariants as taken
-use Rattle.sessions.specs.declared.opening.Created.{Created}
-use Rattle.sessions.specs.declared.opening.Created.TheVariants as created
 use Rattle.sessions.specs.declared.session_streams.StreamPlace.{StreamPlace}
-use Rattle.sessions.specs.declared.session_streams.StreamPlace.TheVariants.{Have, Add, Full, NotLive, Refused}
+use Rattle.sessions.specs.declared.session_streams.StreamPlace.TheVariants.{Have, Add, Full, NotLive}
 use Rattle.sessions.specs.declared.session_streams.StreamRead.{StreamRead}
-use Rattle.sessions.specs.declared.setup.SetUp.TheVariants as setup
 use Rattle.sessions.specs.declared.table.ClientSession.{ClientSession}
-use Rattle.sessions.specs.declared.table.Named.{Named}
-use Rattle.sessions.specs.declared.table.Named.TheVariants as named
 use Rattle.sessions.proofs.ObjectSearch.{Under, place_under}
 use Rattle.sessions.proofs.Chosen.{found_by_lem}
 use Rattle.sessions.proofs.Kept.{none_distinct, one_distinct, put_distinct, remove_distinct, open_distinct, write_numbers}
@@ -60,14 +52,16 @@ use Rattle.sessions.proofs.ViewStreams as streams
 use Rattle.sessions.proofs.session_objects.Laws.{taken_is, stored_is, kept_is, removed_is}
 use Rattle.sessions.proofs.setup.Laws.{Long, accepts, both, cleared_at, cleared_length}
 use Rattle.sessions.proofs.table.Laws.{reach_named}
+use Rattle.std.specs.Prelude.{Err, None, Ok, Option, Result, Some}
+use Rattle.codec.specs.declared.refusals.Refusal.{Refusal}
 
 never : {b : Bool} → b ≡ true → b ≡ false → ⊥
 never p q = let z : ◌≡◌ {A = ℕ} 0 1 = cc in omega arith
 
-kept_length_lem : (w : Named) (rows : List (List ℕ)) (id : ℕ) (s : ClientSession) → length (kept_rows w rows id s) ≡ length rows
-kept_length_lem named.Live rows id s = length-set rows id (row_of s)
-kept_length_lem named.NotLive rows id s = refl
-kept_length_lem (named.Refused r) rows id s = refl
+kept_length_lem : (w : Result Bool Refusal) (rows : List (List ℕ)) (id : ℕ) (s : ClientSession) → length (kept_rows w rows id s) ≡ length rows
+kept_length_lem (Ok true) rows id s = length-set rows id (row_of s)
+kept_length_lem (Ok false) rows id s = refl
+kept_length_lem (Err r) rows id s = refl
 
 -- a store of no fragments
 pub no_fragments : (parts lengths : List ℕ) → codec.Sound (record { buffer = buffer_with 0 0; slots = parts; lengths = lengths })
@@ -198,13 +192,13 @@ module _ (P : StreamState → Type 0) (lasting : Lasting P) (most : ℕ) where
 
     -- ---- what an id names: never 16
 
-    pub objects_named_lem : (id : ℕ) → id < 256 → objects_named t.sessions (length t.objects) id ≡ cond (is_free t.sessions id) named.NotLive named.Live
+    pub objects_named_lem : (id : ℕ) → id < 256 → objects_named t.sessions (length t.objects) id ≡ cond (is_free t.sessions id) (Ok false) (Ok true)
     unfolding objects_named
     objects_named_lem id h =
         sym (reach_named t.sessions id (used_of t.sessions id) 32 (length t.objects) 8192 d.objects_need_lem (d.each id h).few_objects)
         ∙ named_when t.sessions id d.sessions_need_lem
 
-    pub streams_named_lem : (id : ℕ) → id < 256 → streams_named t.sessions (length t.streams) id ≡ cond (is_free t.sessions id) named.NotLive named.Live
+    pub streams_named_lem : (id : ℕ) → id < 256 → streams_named t.sessions (length t.streams) id ≡ cond (is_free t.sessions id) (Ok false) (Ok true)
     unfolding streams_named
     streams_named_lem id h =
         sym (reach_named t.sessions id (streams_used t.sessions id) 8 (length t.streams) 2048 d.streams_need_lem (d.each id h).few_streams)
@@ -321,14 +315,14 @@ module _ (P : StreamState → Type 0) (lasting : Lasting P) (most : ℕ) where
 
     module _ (id : ℕ) (id< : id < 256) where
       module _ (free : is_free t.sessions id ≡ true) where
-        no_objects : objects_named t.sessions (length t.objects) id ≡ named.NotLive
-        no_objects = objects_named_lem id id< ∙ ap (λ (b : Bool). cond b named.NotLive named.Live) free
+        no_objects : objects_named t.sessions (length t.objects) id ≡ (Ok false)
+        no_objects = objects_named_lem id id< ∙ ap (λ (b : Bool). cond b (Ok false) (Ok true)) free
 
         put_free : (o : Object) → put_tables t id o ≡ t
         put_free o = λ i. record {
-          sessions = ap (keep_stored t.sessions id) (sym (stored_is t.sessions t.objects id o named.NotLive no_objects)) i;
+          sessions = ap (keep_stored t.sessions id) (sym (stored_is t.sessions t.objects id o (Ok false) no_objects)) i;
           streams = t.streams;
-          objects = sym (kept_is t.sessions t.objects id o named.NotLive no_objects) i;
+          objects = sym (kept_is t.sessions t.objects id o (Ok false) no_objects) i;
           held = t.held;
           parts = t.parts;
           lengths = t.lengths;
@@ -337,24 +331,24 @@ module _ (P : StreamState → Type 0) (lasting : Lasting P) (most : ℕ) where
 
         drop_free : (n : ObjectNumber) → drop_tables t id n ≡ t
         drop_free n = λ i. record {
-          sessions = ap (keep_removed t.sessions id) (sym (taken_is t.sessions t.objects id n named.NotLive no_objects)) i;
+          sessions = ap (keep_removed t.sessions id) (sym (taken_is t.sessions t.objects id n (Ok false) no_objects)) i;
           streams = t.streams;
-          objects = sym (removed_is t.sessions t.objects id n named.NotLive no_objects) i;
+          objects = sym (removed_is t.sessions t.objects id n (Ok false) no_objects) i;
           held = t.held;
           parts = t.parts;
           lengths = t.lengths;
           rebuilt = t.rebuilt;
         }
 
-        no_streams : streams_named t.sessions (length t.streams) id ≡ named.NotLive
-        no_streams = streams_named_lem id id< ∙ ap (λ (b : Bool). cond b named.NotLive named.Live) free
+        no_streams : streams_named t.sessions (length t.streams) id ≡ (Ok false)
+        no_streams = streams_named_lem id id< ∙ ap (λ (b : Bool). cond b (Ok false) (Ok true)) free
 
       module _ (live : is_free t.sessions id ≡ false) where
-        its_objects : objects_named t.sessions (length t.objects) id ≡ named.Live
-        its_objects = objects_named_lem id id< ∙ ap (λ (b : Bool). cond b named.NotLive named.Live) live
+        its_objects : objects_named t.sessions (length t.objects) id ≡ (Ok true)
+        its_objects = objects_named_lem id id< ∙ ap (λ (b : Bool). cond b (Ok false) (Ok true)) live
 
-        its_streams : streams_named t.sessions (length t.streams) id ≡ named.Live
-        its_streams = streams_named_lem id id< ∙ ap (λ (b : Bool). cond b named.NotLive named.Live) live
+        its_streams : streams_named t.sessions (length t.streams) id ≡ (Ok true)
+        its_streams = streams_named_lem id id< ∙ ap (λ (b : Bool). cond b (Ok false) (Ok true)) live
 
         g : SoundPart P (table_part t id)
         g = d.each id id<
@@ -371,9 +365,9 @@ module _ (P : StreamState → Type 0) (lasting : Lasting P) (most : ℕ) where
         put_changed : (o : Object) → Changed t (put_tables t id o) id
         put_changed o = by (leb 32 (slot_of (object_place row used o.number) used)) refl
           where
-            few : (p : Place) → slot_of p used < 32 → used_after p used ≤ 32
-            few (At k) h = g.few_objects
-            few Nowhere h = omega arith
+            few : (p : Option ℕ) → slot_of p used < 32 → used_after p used ≤ 32
+            few (Some k) h = g.few_objects
+            few None h = omega arith
 
             by : (b : Bool) → leb 32 (slot_of (object_place row used o.number) used) ≡ b → Changed t (put_tables t id o) id
             by true e =
@@ -412,28 +406,28 @@ module _ (P : StreamState → Type 0) (lasting : Lasting P) (most : ℕ) where
         drop_changed : (n : ObjectNumber) → Changed t (drop_tables t id n) id
         drop_changed n = subst (λ (u : Tables). Changed t u id) (sym (stores.by_place t id id< its_objects n)) changed
           where
-            p : Place
+            p : Option ℕ
             p = object_place row used n
 
             under : Under used p
             under = place_under row n used
 
             -- a length that stays where the record goes
-            same : (long : Tables → ℕ) (q : Place) → Under used q → ((k : ℕ) → k < used → long (stores.gone t id id< its_objects k) ≡ long t) → long (stores.dropped t id id< its_objects q) ≡ long t
-            same long (At k) h f = by (depended_at row used fits (At k))
+            same : (long : Tables → ℕ) (q : Option ℕ) → Under used q → ((k : ℕ) → k < used → long (stores.gone t id id< its_objects k) ≡ long t) → long (stores.dropped t id id< its_objects q) ≡ long t
+            same long (Some k) h f = by (depended_at row used fits (Some k))
               where
                 by : (b : Bool) → long (cond b t (stores.gone t id id< its_objects k)) ≡ long t
                 by true = refl
                 by false = f k h
-            same long Nowhere h f = refl
+            same long None h f = refl
 
-            few : (q : Place) → left row used fits q ≤ 32
-            few (At k) = by (depended_at row used fits (At k))
+            few : (q : Option ℕ) → left row used fits q ≤ 32
+            few (Some k) = by (depended_at row used fits (Some k))
               where
                 by : (b : Bool) → cond b used (used - 1) ≤ 32
                 by true = g.few_objects
                 by false = let f : used ≤ 32 = g.few_objects in omega arith
-            few Nowhere = g.few_objects
+            few None = g.few_objects
 
             changed : Changed t (stores.dropped t id id< its_objects p) id
             changed = record {
@@ -482,7 +476,7 @@ module _ (P : StreamState → Type 0) (lasting : Lasting P) (most : ℕ) where
             by false e =
                 subst (λ (l : List ℕ). P (stream_of l)) (sym (get_or-set_other rows k i (stream_row s) [] (eqb-false i k e))) (other (eqb-false i k e))
 
-        add_changed : (n : ℕ) (n< : n < 256) → open_now < 8 → stream_in (streams.shown t id id< its_streams) n ≡ none → Changed t (streams.joined t id id< its_streams n n< (Add open_now)) id
+        add_changed : (n : ℕ) (n< : n < 256) → open_now < 8 → stream_in (streams.shown t id id< its_streams) n ≡ None → Changed t (streams.joined t id id< its_streams n n< (Ok (Add open_now))) id
         add_changed n n< room absent = record {
           sessions_length = length-set t.sessions id (row_of (streamed_session (session_at t.sessions id) (open_now + 1)));
           streams_length = length-set t.streams (first_stream id + open_now) (stream_row (new_stream n));
@@ -512,19 +506,19 @@ module _ (P : StreamState → Type 0) (lasting : Lasting P) (most : ℕ) where
         open_changed : (n : ℕ) → n < 256 → Changed t (open_tables t id n) id
         open_changed n n< = by (stream_place t.sessions t.streams id n) (streams.seen t id id< its_streams n)
           where
-            by : (p : StreamPlace) → streams.Seen t id id< its_streams n p → Changed t (streams.joined t id id< its_streams n n< p) id
-            by (Have k) s = same_changed id id<
-            by (Add k) s =
-                subst (λ (m : ℕ). Changed t (streams.joined t id id< its_streams n n< (Add m)) id) (sym s.0) (add_changed n n< s.1 s.2)
-            by Full s = same_changed id id<
-            by NotLive s = absurd s
-            by (Refused r) s = absurd s
+            by : (p : Result StreamPlace Refusal) → streams.Seen t id id< its_streams n p → Changed t (streams.joined t id id< its_streams n n< p) id
+            by (Ok (Have k)) s = same_changed id id<
+            by (Ok (Add k)) s =
+                subst (λ (m : ℕ). Changed t (streams.joined t id id< its_streams n n< (Ok (Add m))) id) (sym s.0) (add_changed n n< s.1 s.2)
+            by (Ok Full) s = same_changed id id<
+            by (Ok NotLive) s = absurd s
+            by (Err r) s = absurd s
 
         write_changed : (s : StreamState) → s.stream_id < 256 → P s → Changed t (write_tables t id s) id
         write_changed s s< w = by (stream_place t.sessions t.streams id s.stream_id) (streams.seen t id id< its_streams s.stream_id)
           where
             -- what is written in the first place has the number that was there
-            first_number : (k : ℕ) → streams.Seen t id id< its_streams s.stream_id (Have k) → (1 ≤ open_now) × ((stream_of (get_or rows 0 [])).stream_id ≡ 0) → (b : Bool) → eqb 0 k ≡ b
+            first_number : (k : ℕ) → streams.Seen t id id< its_streams s.stream_id (Ok (Have k)) → (1 ≤ open_now) × ((stream_of (get_or rows 0 [])).stream_id ≡ 0) → (b : Bool) → eqb 0 k ≡ b
                 → (stream_of (get_or (set rows k (stream_row s)) 0 [])).stream_id ≡ 0
             first_number k e z true q =
                 let y : 0 ≡ k = eqb-true 0 k q in
@@ -536,7 +530,7 @@ module _ (P : StreamState → Type 0) (lasting : Lasting P) (most : ℕ) where
                 ∙ o
             first_number k e z false q = ap (λ (l : List ℕ). (stream_of l).stream_id) (get_or-set_other rows k 0 (stream_row s) [] (eqb-false 0 k q)) ∙ z.1
 
-            over : (k : ℕ) → streams.Seen t id id< its_streams s.stream_id (Have k) → Changed t (streams.writing t id id< its_streams s s< (Have k)) id
+            over : (k : ℕ) → streams.Seen t id id< its_streams s.stream_id (Ok (Have k)) → Changed t (streams.writing t id id< its_streams s s< (Ok (Have k))) id
             over k e = record {
               sessions_length = refl;
               streams_length = length-set t.streams (first_stream id + k) (stream_row s);
@@ -554,7 +548,7 @@ module _ (P : StreamState → Type 0) (lasting : Lasting P) (most : ℕ) where
                     objects_differ = g.objects_differ;
                     streams_differ =
                         subst Distinct
-                        (sym (ap stream_numbers (streams.written_shown t id id< its_streams s s< k e) ∙ write_numbers (streams.shown t id id< its_streams) (streams.with_buffer t id id< its_streams s s< (Have k))))
+                        (sym (ap stream_numbers (streams.written_shown t id id< its_streams s s< k e) ∙ write_numbers (streams.shown t id id< its_streams) (streams.with_buffer t id id< its_streams s s< (Ok (Have k)))))
                         g.streams_differ;
                     written = λ i h. set_written s w k (let f : open_now ≤ 8 = g.few_streams in let l : k < open_now = e.0 in omega arith) i (λ q. g.written i h);
                     few_fragments = g.few_fragments;
@@ -564,12 +558,12 @@ module _ (P : StreamState → Type 0) (lasting : Lasting P) (most : ℕ) where
                   });
             }
 
-            by : (p : StreamPlace) → streams.Seen t id id< its_streams s.stream_id p → Changed t (streams.writing t id id< its_streams s s< p) id
-            by (Have k) e = over k e
-            by (Add k) e = same_changed id id<
-            by Full e = same_changed id id<
-            by NotLive e = absurd e
-            by (Refused r) e = absurd e
+            by : (p : Result StreamPlace Refusal) → streams.Seen t id id< its_streams s.stream_id p → Changed t (streams.writing t id id< its_streams s s< p) id
+            by (Ok (Have k)) e = over k e
+            by (Ok (Add k)) e = same_changed id id<
+            by (Ok Full) e = same_changed id id<
+            by (Ok NotLive) e = absurd e
+            by (Err r) e = absurd e
 
       -- a session keeps its slot whatever it lists
       kept_slot : (s : ClientSession) → s.slot ≡ (session_at t.sessions id).slot → (session_at (keep_session t.sessions id s) id).slot ≡ (session_at t.sessions id).slot
@@ -578,44 +572,44 @@ module _ (P : StreamState → Type 0) (lasting : Lasting P) (most : ℕ) where
       put_slot : (o : Object) → (session_at (put_tables t id o).sessions id).slot ≡ (session_at t.sessions id).slot
       put_slot o = by (stored_object t.sessions t.objects id o)
         where
-          by : (r : Stored) → (session_at (keep_stored t.sessions id r) id).slot ≡ (session_at t.sessions id).slot
-          by (stored.Count n) = kept_slot (counted_session (session_at t.sessions id) n) refl
-          by stored.Full = refl
-          by stored.NotLive = refl
-          by (stored.Refused r) = refl
+          by : (r : Result Stored Refusal) → (session_at (keep_stored t.sessions id r) id).slot ≡ (session_at t.sessions id).slot
+          by (Ok (stored.Count n)) = kept_slot (counted_session (session_at t.sessions id) n) refl
+          by (Ok stored.Full) = refl
+          by (Ok stored.NotLive) = refl
+          by (Err r) = refl
 
       drop_slot : (n : ObjectNumber) → (session_at (drop_tables t id n).sessions id).slot ≡ (session_at t.sessions id).slot
       drop_slot n = by (taken_object t.sessions t.objects id n)
         where
-          by : (r : Taken) → (session_at (keep_removed t.sessions id r) id).slot ≡ (session_at t.sessions id).slot
-          by (taken.Gone o) = kept_slot (counted_session (session_at t.sessions id) _) refl
-          by taken.Depended = refl
-          by taken.Nothing = refl
-          by (taken.Refused r) = refl
+          by : (r : Result Taken Refusal) → (session_at (keep_removed t.sessions id r) id).slot ≡ (session_at t.sessions id).slot
+          by (Ok (taken.Gone o)) = kept_slot (counted_session (session_at t.sessions id) _) refl
+          by (Ok taken.Depended) = refl
+          by (Ok taken.Nothing) = refl
+          by (Err r) = refl
 
       open_slot : (n : ℕ) → (session_at (open_tables t id n).sessions id).slot ≡ (session_at t.sessions id).slot
       open_slot n = by (stream_place t.sessions t.streams id n)
         where
-          by : (p : StreamPlace) → (session_at (opened_count p t.sessions id) id).slot ≡ (session_at t.sessions id).slot
-          by (Have k) = refl
-          by (Add k) = kept_slot (streamed_session (session_at t.sessions id) (k + 1)) refl
-          by Full = refl
-          by NotLive = refl
-          by (Refused r) = refl
+          by : (p : Result StreamPlace Refusal) → (session_at (opened_count p t.sessions id) id).slot ≡ (session_at t.sessions id).slot
+          by (Ok (Have k)) = refl
+          by (Ok (Add k)) = kept_slot (streamed_session (session_at t.sessions id) (k + 1)) refl
+          by (Ok Full) = refl
+          by (Ok NotLive) = refl
+          by (Err r) = refl
 
       -- what `read_stream` hands back is known as what is written back is
       pub read_lasts : (n : ℕ) → P (read_as (stream_place t.sessions t.streams id n) t.streams id).state
       read_lasts n = by (is_free t.sessions id) refl
         where
-          at : is_free t.sessions id ≡ false → (p : StreamPlace) → ((k : ℕ) → p ≡ Have k → k < streams_used t.sessions id) → P (state_at p t.streams id)
-          at e (Have k) f =
+          at : is_free t.sessions id ≡ false → (p : Result StreamPlace Refusal) → ((k : ℕ) → p ≡ Ok (Have k) → k < streams_used t.sessions id) → P (state_at p t.streams id)
+          at e (Ok (Have k)) f =
               let used< : streams_used t.sessions id ≤ 8 = (d.each id id<).few_streams in
               let l : k < streams_used t.sessions id = f k refl in
               subst (λ (w : List ℕ). P (stream_of w)) (streams.row_at t id id< (its_streams e) k (omega arith)) ((d.each id id<).written k l)
-          at e (Add k) f = lasting.opens 0
-          at e Full f = lasting.opens 0
-          at e NotLive f = lasting.opens 0
-          at e (Refused r) f = lasting.opens 0
+          at e (Ok (Add k)) f = lasting.opens 0
+          at e (Ok Full) f = lasting.opens 0
+          at e (Ok NotLive) f = lasting.opens 0
+          at e (Err r) f = lasting.opens 0
 
           by : (b : Bool) → is_free t.sessions id ≡ b → P (read_as (stream_place t.sessions t.streams id n) t.streams id).state
           by true e = subst (λ (r : StreamRead). P r.state) (sym (streams.read_gone t id (no_streams e) n)) (lasting.opens 0)
@@ -734,8 +728,8 @@ module _ (P : StreamState → Type 0) (lasting : Lasting P) (most : ℕ) where
         f : ℕ
         f = free_of t.sessions next
 
-        answered : Bool → Bool → Bool → Created
-        answered a b c = cond a (cond b (cond c (created.Refused SessionFull) (created.Opened f (after f))) (created.Refused SessionFull)) (created.Refused OverLimit)
+        answered : Bool → Bool → Bool → Result (ℕ × ℕ) Refusal
+        answered a b c = cond a (cond b (cond c (Err SessionFull) (Ok (f, (after f)))) (Err SessionFull)) (Err OverLimit)
 
         by : (a : Bool) → open_fits t.sessions t.streams max next ≡ a → (b : Bool) → ltb (live_of t.sessions) max ≡ b → (c : Bool) → eqb (free_of t.sessions next) 0 ≡ c → LeadsTo P most t (create_tables (answered a b c) t key time)
         by true e true l true z = same_led
@@ -769,9 +763,9 @@ module _ (P : StreamState → Type 0) (lasting : Lasting P) (most : ℕ) where
 
   -- whatever stood in the stores, if set-up accepts them
   pub ready_led : (t : Tables) (max next : ℕ) → Long (length t.sessions) (length t.streams) (length t.objects) (length t.held) (length t.parts) (length t.lengths) (length t.rebuilt) max
-      → held_need most ≤ length t.held → parts_need most ≤ length t.parts → lengths_need most ≤ length t.lengths → LeadsTo P most t (set_up_tables (setup.Ready next) t)
+      → held_need most ≤ length t.held → parts_need most ≤ length t.parts → lengths_need most ≤ length t.lengths → LeadsTo P most t (set_up_tables (Ok next) t)
   ready_led t max next long held-room parts-room lengths-room = record {
-    sound = empty_sound (set_up_tables (setup.Ready next) t) (rw sessions_same long.sessions_long) (rw streams_same long.streams_long) (rw objects_same long.objects_long) held-room parts-room lengths-room long.rebuilt_long
+    sound = empty_sound (set_up_tables (Ok next) t) (rw sessions_same long.sessions_long) (rw streams_same long.streams_long) (rw objects_same long.objects_long) held-room parts-room lengths-room long.rebuilt_long
         (λ id h. ap session_of (cleared_at (row_of ended_session) 256 t.sessions id [] h));
     sessions_length = sessions_same;
     streams_length = streams_same;
@@ -795,6 +789,6 @@ module _ (P : StreamState → Type 0) (lasting : Lasting P) (most : ℕ) where
   unfolding set_up_of
   set_up_led max t d = by (stores_fit (length t.sessions) (length t.streams) (length t.objects) (length t.held) (length t.parts) (length t.lengths) (length t.rebuilt) max) refl
     where
-      by : (b : Bool) → stores_fit (length t.sessions) (length t.streams) (length t.objects) (length t.held) (length t.parts) (length t.lengths) (length t.rebuilt) max ≡ b → LeadsTo P most t (set_up_tables (cond b (setup.Ready first_id) (setup.Refused OverLimit)) t)
+      by : (b : Bool) → stores_fit (length t.sessions) (length t.streams) (length t.objects) (length t.held) (length t.parts) (length t.lengths) (length t.rebuilt) max ≡ b → LeadsTo P most t (set_up_tables (cond b (Ok first_id) (Err OverLimit)) t)
       by true e = ready_led t max first_id (accepts (length t.sessions) (length t.streams) (length t.objects) (length t.held) (length t.parts) (length t.lengths) (length t.rebuilt) max e) d.held_need_lem d.parts_need_lem d.lengths_need_lem
       by false e = same_led t d

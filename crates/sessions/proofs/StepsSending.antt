@@ -6,8 +6,6 @@ use mathlib.Core.List.{List}
 use lib.ListN.{length, take}
 use Rattle.streams.specs.Sent.{alloc_of, slot_for, record_of}
 use Rattle.streams.specs.declared.state.StreamState.{StreamState}
-use Rattle.streams.specs.declared.sent.Slot.{Slot}
-use Rattle.streams.specs.declared.sent.Slot.TheVariants as slot
 use Rattle.sessions.specs.Table.{is_free}
 use Rattle.sessions.specs.Streams.{stream_at, first_stream}
 use Rattle.sessions.specs.SessionStreams.{streams_named, stream_place, read_as, written_in}
@@ -15,13 +13,14 @@ use Rattle.sessions.specs.Sending.{stretch_at, room_of, sent_row, sent_streams_a
 use Rattle.sessions.specs.View.{Tables, Part, opened, table_part, Distinct}
 use Rattle.sessions.specs.Calls.{send_tables, Lasting, SoundPart, SoundTables, LeadsTo}
 use Rattle.sessions.specs.declared.session_streams.StreamPlace.{StreamPlace}
-use Rattle.sessions.specs.declared.session_streams.StreamPlace.TheVariants.{Have, Add, Full, NotLive, Refused}
-use Rattle.sessions.specs.declared.table.Named.TheVariants as named
+use Rattle.sessions.specs.declared.session_streams.StreamPlace.TheVariants.{Have, Add, Full, NotLive}
 use Rattle.sessions.proofs.ShownStreams.{shown_numbers}
 use Rattle.sessions.proofs.StreamBack.{row_small}
 use Rattle.sessions.proofs.Steps as steps
 use Rattle.sessions.proofs.ViewStreams as streams
 use Rattle.sessions.proofs.ViewSending.{sent_length, sent_number}
+use Rattle.std.specs.Prelude.{Err, None, Ok, Option, Result, Some}
+use Rattle.codec.specs.declared.refusals.Refusal.{Refusal}
 
 module _ (P : StreamState → Type 0) (lasting : Lasting P) (most : ℕ) where
   -- ---- tables with other held messages
@@ -68,14 +67,14 @@ module _ (P : StreamState → Type 0) (lasting : Lasting P) (most : ℕ) where
   }
 
   module _ (t : Tables) (d : SoundTables P most t) (id : ℕ) (id< : id < 256) (n : ℕ) (message : List ℕ) where
-    abbrev place : StreamPlace
+    abbrev place : Result StreamPlace Refusal
     place = stream_place t.sessions t.streams id n
 
     abbrev with_rows : List (List ℕ) → Tables
     with_rows rows = record { sessions = t.sessions; streams = rows; objects = t.objects; held = t.held; parts = t.parts; lengths = t.lengths; rebuilt = t.rebuilt }
 
     -- the stream of place k, and what it is behind the message
-    module _ (k : ℕ) (found : place ≡ Have k) (number : (stream_at t.streams (first_stream id + k)).stream_id ≡ n) where
+    module _ (k : ℕ) (found : place ≡ Ok (Have k)) (number : (stream_at t.streams (first_stream id + k)).stream_id ≡ n) where
       abbrev s : StreamState
       s = stream_at t.streams (first_stream id + k)
 
@@ -86,45 +85,45 @@ module _ (P : StreamState → Type 0) (lasting : Lasting P) (most : ℕ) where
       behind = (alloc_of (record_of s s.next_send_seq (length message) room).state).state
 
       known : P s
-      known = subst (λ (p : StreamPlace). P (read_as p t.streams id).state) found (steps.read_lasts P lasting most t d id id< n)
+      known = subst (λ (p : Result StreamPlace Refusal). P (read_as p t.streams id).state) found (steps.read_lasts P lasting most t d id id< n)
 
       own : behind.stream_id ≡ n
       own = sent_number s s.next_send_seq (length message) room ∙ number
 
-      written_led : LeadsTo P most t (with_rows (written_in (Have k) t.streams id behind))
+      written_led : LeadsTo P most t (with_rows (written_in (Ok (Have k)) t.streams id behind))
       written_led =
-          subst (λ (p : StreamPlace). LeadsTo P most t (with_rows (written_in p t.streams id behind))) (ap (stream_place t.sessions t.streams id) own ∙ found)
+          subst (λ (p : Result StreamPlace Refusal). LeadsTo P most t (with_rows (written_in p t.streams id behind))) (ap (stream_place t.sessions t.streams id) own ∙ found)
           (steps.write_led P lasting most t d id id< behind
           (rw (sent_number s s.next_send_seq (length message) room) (row_small _))
           (lasting.sends s (length message) room known))
 
-      rows_led : LeadsTo P most t (with_rows (sent_streams_at (Have k) t.sessions t.streams t.held id message))
+      rows_led : LeadsTo P most t (with_rows (sent_streams_at (Ok (Have k)) t.sessions t.streams t.held id message))
       unfolding record_of
       rows_led = by (slot_for s s.next_send_seq (length message) room)
         where
-          by : (a : Slot) → LeadsTo P most t (with_rows (sent_row a t.streams (first_stream id + k) (record_of s s.next_send_seq (length message) room).state))
-          by (slot.At p) = written_led
-          by slot.Nowhere = steps.same_led P lasting most t d
-          by (slot.Refused r) = steps.same_led P lasting most t d
+          by : (a : Result (Option ℕ) Refusal) → LeadsTo P most t (with_rows (sent_row a t.streams (first_stream id + k) (record_of s s.next_send_seq (length message) room).state))
+          by (Ok (Some p)) = written_led
+          by (Ok None) = steps.same_led P lasting most t d
+          by (Err r) = steps.same_led P lasting most t d
 
     streams_led : LeadsTo P most t (with_rows (sent_streams t.sessions t.streams t.held id n message))
     unfolding sent_streams
     streams_led = go (is_free t.sessions id) refl
       where
-        its : (b : Bool) → is_free t.sessions id ≡ b → streams_named t.sessions (length t.streams) id ≡ cond b named.NotLive named.Live
-        its b e = steps.streams_named_lem P lasting most t d id id< ∙ ap (λ (b : Bool). cond b named.NotLive named.Live) e
+        its : (b : Bool) → is_free t.sessions id ≡ b → streams_named t.sessions (length t.streams) id ≡ cond b (Ok false) (Ok true)
+        its b e = steps.streams_named_lem P lasting most t d id id< ∙ ap (λ (b : Bool). cond b (Ok false) (Ok true)) e
 
-        by : (live : streams_named t.sessions (length t.streams) id ≡ named.Live) (p : StreamPlace) → place ≡ p → streams.Seen t id id< live n p
+        by : (live : streams_named t.sessions (length t.streams) id ≡ (Ok true)) (p : Result StreamPlace Refusal) → place ≡ p → streams.Seen t id id< live n p
             → LeadsTo P most t (with_rows (sent_streams_at p t.sessions t.streams t.held id message))
-        by live (Have k) e s = rows_led k e (streams.at_number t id id< live n k s)
-        by live (Add k) e s = steps.same_led P lasting most t d
-        by live Full e s = steps.same_led P lasting most t d
-        by live NotLive e s = absurd s
-        by live (Refused r) e s = absurd s
+        by live (Ok (Have k)) e s = rows_led k e (streams.at_number t id id< live n k s)
+        by live (Ok (Add k)) e s = steps.same_led P lasting most t d
+        by live (Ok Full) e s = steps.same_led P lasting most t d
+        by live (Ok NotLive) e s = absurd s
+        by live (Err r) e s = absurd s
 
         go : (b : Bool) → is_free t.sessions id ≡ b → LeadsTo P most t (with_rows (sent_streams_at place t.sessions t.streams t.held id message))
         go true e =
-            subst (λ (p : StreamPlace). LeadsTo P most t (with_rows (sent_streams_at p t.sessions t.streams t.held id message))) (sym (streams.no_place t id (its true e) n))
+            subst (λ (p : Result StreamPlace Refusal). LeadsTo P most t (with_rows (sent_streams_at p t.sessions t.streams t.held id message))) (sym (streams.no_place t id (its true e) n))
             (steps.same_led P lasting most t d)
         go false e = by (its false e) place refl (streams.seen t id id< (its false e) n)
 

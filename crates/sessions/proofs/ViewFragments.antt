@@ -3,7 +3,6 @@ use Prim.Native.Nat.{ℕ, suc, ◌*◌, ◌-◌, ◌<◌, ◌≤◌}
 use mathlib.Core.Path.{◌≡◌, refl, sym, ap, ◌∙◌, subst}
 use mathlib.Core.Logic.{◌≢◌}
 use mathlib.Core.Bool.{Bool, true, false, cond}
-use mathlib.Core.Option.{Option, none, some}
 use mathlib.Core.List.{List, []}
 use native.Mathlib.Omega.{arith}
 use borrow.Author.Tests.{le-leb, le-ltb, ltb-true, ltb-false, eqb-true, eqb-false}
@@ -28,12 +27,12 @@ use Rattle.sessions.specs.declared.fragments.Gathered.{Gathered}
 use Rattle.sessions.specs.declared.fragments.Gathered.TheVariants.{Nothing, Held, Whole}
 use Rattle.sessions.specs.declared.sending.Stretch.{Stretch}
 use Rattle.sessions.specs.declared.table.ClientSession.{ClientSession}
-use Rattle.sessions.specs.declared.table.Named.TheVariants as named
 use Rattle.sessions.proofs.Buffers.{with_same, with_length, put_back}
 use Rattle.sessions.proofs.ViewTable.{kept_here, kept_elsewhere}
 use Rattle.sessions.proofs.sending.Laws.{buffer_length}
 use Rattle.sessions.proofs.fragments.Laws.{Stands, stretch_stands, has_slot_lem, part_here, slot_apart, not_taken, taken_is}
 use Rattle.sessions.proofs.fragments.Store.{Allowed, allowed_is, parts_length, lengths_length, rebuilt_keeps, ends, slots_left, fragment_ends}
+use Rattle.std.specs.Prelude.{Err, Ok, Option, None, Some}
 
 -- ---- any tables
 
@@ -46,7 +45,7 @@ pub taking : (sessions : List (List ℕ)) (id nr total len : ℕ) → takes sess
 unfolding named_of
 taking sessions id nr total len = by (table_fits sessions) (is_free sessions id) refl (allowed nr total len) refl
   where
-    by : (x y : Bool) → is_free sessions id ≡ y → (z : Bool) → allowed nr total len ≡ z → cond (is_live (cond x (cond y named.NotLive named.Live) (named.Refused OverLimit))) z false ≡ true → Taking sessions id nr total len
+    by : (x y : Bool) → is_free sessions id ≡ y → (z : Bool) → allowed nr total len ≡ z → cond (is_live (cond x (cond y (Ok false) (Ok true)) (Err OverLimit))) z false ≡ true → Taking sessions id nr total len
     by true false p true q e = record { live = p; ok = q }
     by true false p false q e = let i : ◌≡◌ {A = ℕ} 0 1 = cc in absurd (omega arith)
     by true true p z q e = let i : ◌≡◌ {A = ℕ} 0 1 = cc in absurd (omega arith)
@@ -310,14 +309,14 @@ abbrev pub store_of : Tables → ℕ → FragmentStore
 store_of t id = store_shown (table_part t id)
 
 abbrev pub with_store : FragmentStore → Option Local → Option Local
-with_store st none = none
-with_store st (some l) = some (record { id = l.id; key = l.key; last = l.last; objects = l.objects; streams = l.streams; store = st })
+with_store st None = None
+with_store st (Some l) = Some (record { id = l.id; key = l.key; last = l.last; objects = l.objects; streams = l.streams; store = st })
 
 -- how many bytes an answer says are rebuilt
 abbrev pub whole_in : Gathered → Option ℕ
-whole_in Nothing = none
-whole_in (Held b) = none
-whole_in (Whole n) = some n
+whole_in Nothing = None
+whole_in (Held b) = None
+whole_in (Whole n) = Some n
 
 -- ---- sound tables
 
@@ -331,8 +330,8 @@ module _ (P : StreamState → Type 0) (most : ℕ) (t : Tables) (d : SoundTables
 
       go : takes t.sessions id nr total (length body) ≡ true → (x : Bool) → is_free t.sessions j ≡ x → local_of (gather_tables t id nr total body) j ≡ local_of t j
       go so true e =
-          ap (λ (x : Bool). cond x none (some (session_shown j (table_part (gather_tables t id nr total body) j)))) (ap (λ (m : ℕ). eqb m 0) live_same ∙ e)
-          ∙ sym (ap (λ (x : Bool). cond x none (some (session_shown j (table_part t j)))) e)
+          ap (λ (x : Bool). cond x None (Some (session_shown j (table_part (gather_tables t id nr total body) j)))) (ap (λ (m : ℕ). eqb m 0) live_same ∙ e)
+          ∙ sym (ap (λ (x : Bool). cond x None (Some (session_shown j (table_part t j)))) e)
       go so false e =
           let l = (taking t.sessions id nr total (length body) so).live in
           ap (local_shown j) (part_elsewhere t id nr total body so j n (λ q. n (d.slots.differ j id j< id< e l (sym q))))
@@ -390,19 +389,19 @@ module _ (P : StreamState → Type 0) (most : ℕ) (t : Tables) (d : SoundTables
       shown_with st =
           record { id = id; key = here.client_key; last = here.last_activity; objects = objects_shown (table_part t id); streams = streams_shown (table_part t id); store = st }
 
-      shown_live : (st : FragmentStore) → with_store st (local_of t id) ≡ some (shown_with st)
-      shown_live st = ap (λ (x : Bool). with_store st (cond x none (some (session_shown id (table_part t id))))) live
+      shown_live : (st : FragmentStore) → with_store st (local_of t id) ≡ Some (shown_with st)
+      shown_live st = ap (λ (x : Bool). with_store st (cond x None (Some (session_shown id (table_part t id))))) live
 
       shown_behind : (ok : Allowed nr total (length body)) (o : Option (List ℕ)) → ends here ps ls (d.each id id<).fragments nr total body ok t.rebuilt o
-          → local_shown id (part_with t id nr total body (comes_to t id nr total body)) ≡ some (shown_with (store_behind total (slots_with (store_of t id) nr total body) o))
+          → local_shown id (part_with t id nr total body (comes_to t id nr total body)) ≡ Some (shown_with (store_behind total (slots_with (store_of t id) nr total body) o))
       unfolding slots_of
-      shown_behind ok none e =
+      shown_behind ok None e =
           ap (λ (g : Gathered). local_shown id (part_with t id nr total body g)) e.1
-          ∙ ap (λ (x : Bool). cond x none (some (session_shown id (part_with t id nr total body (Held (buffer_with total e.0)))))) live
-          ∙ ap (λ (v : List Slot). some (shown_with (record { total = total; slots = v }))) (slots_left here ps ls (d.each id id<).fragments nr total body ok (enough ok))
-      shown_behind ok (some bytes) e =
+          ∙ ap (λ (x : Bool). cond x None (Some (session_shown id (part_with t id nr total body (Held (buffer_with total e.0)))))) live
+          ∙ ap (λ (v : List Slot). Some (shown_with (record { total = total; slots = v }))) (slots_left here ps ls (d.each id id<).fragments nr total body ok (enough ok))
+      shown_behind ok (Some bytes) e =
           ap (λ (g : Gathered). local_shown id (part_with t id nr total body g)) e.0
-          ∙ ap (λ (x : Bool). cond x none (some (session_shown id (part_with t id nr total body (Whole (length bytes)))))) live
+          ∙ ap (λ (x : Bool). cond x None (Some (session_shown id (part_with t id nr total body (Whole (length bytes)))))) live
 
       pub gather_here : local_of (gather_tables t id nr total body) id ≡ with_store (gathered_store (store_of t id) nr total body) (local_of t id)
       gather_here = by (allowed nr total (length body)) refl
@@ -420,15 +419,15 @@ module _ (P : StreamState → Type 0) (most : ℕ) (t : Tables) (d : SoundTables
               ∙ sym (ap (λ (x : Bool). with_store (cond x behind (store_of t id)) (local_of t id)) e)
           by false e =
               ap (λ (u : Tables). local_of u id) (gather_nothing t id nr total body (takes_is ∙ e)).0
-              ∙ ap (λ (x : Bool). cond x none (some (session_shown id (table_part t id)))) live
+              ∙ ap (λ (x : Bool). cond x None (Some (session_shown id (table_part t id)))) live
               ∙ sym (shown_live (store_of t id))
               ∙ sym (ap (λ (x : Bool). with_store (cond x behind (store_of t id)) (local_of t id)) e)
 
       -- ---- what it is answered, and the rebuilt bytes in their place
 
       abbrev pub Answered : Option (List ℕ) → Type 0
-      Answered none = whole_in (gathered t.sessions t.parts t.lengths t.rebuilt id nr total body) ≡ none
-      Answered (some bytes) =
+      Answered None = whole_in (gathered t.sessions t.parts t.lengths t.rebuilt id nr total body) ≡ None
+      Answered (Some bytes) =
           (gathered t.sessions t.parts t.lengths t.rebuilt id nr total body ≡ Whole (length bytes))
           × (take (length bytes) (gather_tables t id nr total body).rebuilt ≡ bytes)
           × (length bytes ≤ 32768)
@@ -438,24 +437,24 @@ module _ (P : StreamState → Type 0) (most : ℕ) (t : Tables) (d : SoundTables
         where
           told : (so : takes t.sessions id nr total (length body) ≡ true) (ok : Allowed nr total (length body)) (o : Option (List ℕ))
               → ends here ps ls (d.each id id<).fragments nr total body ok t.rebuilt o → Answered o
-          told so ok none e =
+          told so ok None e =
               let c = taken_is t.sessions t.parts t.lengths t.rebuilt id nr total body so here refl _ _ refl refl in
               ap whole_in (sym c.0 ∙ e.1)
-          told so ok (some bytes) e =
+          told so ok (Some bytes) e =
               let c = taken_is t.sessions t.parts t.lengths t.rebuilt id nr total body so here refl _ _ refl refl in
               (sym c.0 ∙ e.0, ap (take (length bytes)) (sym c.4 ∙ e.1) ∙ take_put t.rebuilt bytes, e.2)
 
           by : (x : Bool) → allowed nr total (length body) ≡ x → Answered (gathered_bytes (store_of t id) nr total body)
           by true e =
               let ok = allowed_is nr total (length body) e in
-              subst Answered (sym (ap (λ (x : Bool). cond x (whole_of (slots_with (store_of t id) nr total body)) none) e)) (told (takes_is ∙ e) ok (whole_of (slots_with (store_of t id) nr total body)) (ended ok))
+              subst Answered (sym (ap (λ (x : Bool). cond x (whole_of (slots_with (store_of t id) nr total body)) None) e)) (told (takes_is ∙ e) ok (whole_of (slots_with (store_of t id) nr total body)) (ended ok))
           by false e =
-              subst Answered (sym (ap (λ (x : Bool). cond x (whole_of (slots_with (store_of t id) nr total body)) none) e)) (ap whole_in (gather_nothing t id nr total body (takes_is ∙ e)).1)
+              subst Answered (sym (ap (λ (x : Bool). cond x (whole_of (slots_with (store_of t id) nr total body)) None) e)) (ap whole_in (gather_nothing t id nr total body (takes_is ∙ e)).1)
 
-      pub gather_missing : gathered_bytes (store_of t id) nr total body ≡ none → whole_in (gathered t.sessions t.parts t.lengths t.rebuilt id nr total body) ≡ none
+      pub gather_missing : gathered_bytes (store_of t id) nr total body ≡ None → whole_in (gathered t.sessions t.parts t.lengths t.rebuilt id nr total body) ≡ None
       gather_missing e = subst Answered e gather_answer
 
-      pub gather_whole : (bytes : List ℕ) → gathered_bytes (store_of t id) nr total body ≡ some bytes
+      pub gather_whole : (bytes : List ℕ) → gathered_bytes (store_of t id) nr total body ≡ Some bytes
           → (gathered t.sessions t.parts t.lengths t.rebuilt id nr total body ≡ Whole (length bytes))
           × (take (length bytes) (gather_tables t id nr total body).rebuilt ≡ bytes)
           × (length bytes ≤ 32768)

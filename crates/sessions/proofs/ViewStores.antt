@@ -3,7 +3,6 @@ use Prim.Native.Nat.{ℕ, ◌+◌, ◌-◌, ◌*◌, ◌<◌, ◌≤◌}
 use mathlib.Core.Path.{◌≡◌, refl, sym, ap, ◌∙◌}
 use mathlib.Core.Logic.{◌≢◌}
 use mathlib.Core.Bool.{Bool, true, false, cond}
-use mathlib.Core.Option.{Option, none, some}
 use mathlib.Core.List.{List, ◌++◌}
 use native.Mathlib.Omega.{arith}
 use borrow.Author.Tests.{lt-ltb, le-ltb, leb-true, leb-false}
@@ -20,17 +19,15 @@ use Rattle.sessions.specs.Held.{held_part}
 use Rattle.sessions.specs.View.{Tables, Entry, Local, Part, entry_of, listed, stream_rows, table_part, session_shown, local_shown, local_of, objects_of, find_in, put_in, Distinct, object_numbers}
 use Rattle.sessions.specs.Calls.{put_tables, drop_tables}
 use Rattle.sessions.specs.declared.objects.Object.{Object}
-use Rattle.sessions.specs.declared.objects.Place.{Place}
-use Rattle.sessions.specs.declared.objects.Place.TheVariants.{At, Nowhere}
 use Rattle.sessions.specs.declared.objects.Stored.TheVariants.{Count, Full}
 use Rattle.sessions.specs.declared.objects.Taken.TheVariants.{Gone, Depended}
-use Rattle.sessions.specs.declared.table.Named.TheVariants.{Live}
 use Rattle.sessions.proofs.ObjectSearch.{Under, place_under}
 use Rattle.sessions.proofs.Parts.{part_below, part_above}
 use Rattle.sessions.proofs.ViewObjects.{entry_found, find_shown, put_shown, depended_at, left, drop_shown}
 use Rattle.sessions.proofs.ViewTable.{parts_of, lengths_of, kept_here, kept_elsewhere}
 use Rattle.sessions.proofs.session_objects.Laws.{lent_row, found_is, stored_is, kept_is, taken_is, removed_is}
 use Rattle.sessions.proofs.table.Laws.{live_fits}
+use Rattle.std.specs.Prelude.{None, Ok, Some, Option}
 
 -- ---- a session's row in the store
 
@@ -71,8 +68,8 @@ row_elsewhere objects id k j x h n = by (leb j id) refl
 
 -- a session with other objects
 abbrev pub with_objects : List Entry → Option Local → Option Local
-with_objects es none = none
-with_objects es (some l) = some (record { id = l.id; key = l.key; last = l.last; objects = es; streams = l.streams; store = l.store })
+with_objects es None = None
+with_objects es (Some l) = Some (record { id = l.id; key = l.key; last = l.last; objects = es; streams = l.streams; store = l.store })
 
 -- a part with n objects in another row
 abbrev pub with_counted : ℕ → List Object → Part → Part
@@ -81,18 +78,18 @@ with_counted n row p = record { session = counted_session p.session n; objects =
 counted_shown : (id n : ℕ) (row : List Object) (p : Part) → local_shown id (with_counted n row p) ≡ with_objects (listed n row) (local_shown id p)
 counted_shown id n row p = by (eqb p.session.live 0)
   where
-    by : (b : Bool) → cond b none (some (session_shown id (with_counted n row p))) ≡ with_objects (listed n row) (cond b none (some (session_shown id p)))
+    by : (b : Bool) → cond b None (Some (session_shown id (with_counted n row p))) ≡ with_objects (listed n row) (cond b None (Some (session_shown id p)))
     by true = refl
     by false = refl
 
-module _ (t : Tables) (id : ℕ) (id< : id < 256) (live : objects_named t.sessions (length t.objects) id ≡ Live) where
+module _ (t : Tables) (id : ℕ) (id< : id < 256) (live : objects_named t.sessions (length t.objects) id ≡ (Ok true)) where
   abbrev row : List Object
   row = object_row t.objects id
 
   abbrev used : ℕ
   used = used_of t.sessions id
 
-  abbrev place : ObjectNumber → Place
+  abbrev place : ObjectNumber → Option ℕ
   place n = object_place row used n
 
   pub inside : first_object id + 32 ≤ length t.objects
@@ -108,7 +105,7 @@ module _ (t : Tables) (id : ℕ) (id< : id < 256) (live : objects_named t.sessio
   -- ---- find
 
   pub find_view : Distinct (object_numbers (objects_of t id)) → (n : ObjectNumber) → entry_found (found_object t.sessions t.objects id n) ≡ find_in (objects_of t id) n.0
-  find_view different n = ap entry_found (sym (found_is t.sessions t.objects id n Live live)) ∙ find_shown row used fits different n
+  find_view different n = ap entry_found (sym (found_is t.sessions t.objects id n (Ok true) live)) ∙ find_shown row used fits different n
 
   -- ---- put
 
@@ -117,16 +114,16 @@ module _ (t : Tables) (id : ℕ) (id< : id < 256) (live : objects_named t.sessio
     in_row = rw (row_length t.objects id inside) room
 
     -- the answer is the number of objects
-    pub put_counts : stored_object t.sessions t.objects id o ≡ Count (used_after (place o.number) used)
+    pub put_counts : stored_object t.sessions t.objects id o ≡ Ok (Count (used_after (place o.number) used))
     put_counts =
-        sym (stored_is t.sessions t.objects id o Live live)
-        ∙ ap (λ (b : Bool). cond b (Count (used_after (place o.number) used)) Full) (lt-ltb (slot_of (place o.number) used) (length row) in_row)
+        sym (stored_is t.sessions t.objects id o (Ok true) live)
+        ∙ ap (λ (b : Bool). cond b (Ok (Count (used_after (place o.number) used))) (Ok Full)) (lt-ltb (slot_of (place o.number) used) (length row) in_row)
 
     pub put_rows : keep_stored t.sessions id (stored_object t.sessions t.objects id o) ≡ keep_used t.sessions id (used_after (place o.number) used)
     put_rows = ap (keep_stored t.sessions id) put_counts
 
     put_store : stored_objects t.sessions t.objects id o ≡ with_object_row t.objects id (stored_row row used o)
-    put_store = sym (kept_is t.sessions t.objects id o Live live)
+    put_store = sym (kept_is t.sessions t.objects id o (Ok true) live)
 
     pub put_set : stored_objects t.sessions t.objects id o ≡ set t.objects (first_object id + slot_of (place o.number) used) o
     put_set = put_store ∙ row_set t.objects id inside (slot_of (place o.number) used) o room
@@ -169,16 +166,16 @@ module _ (t : Tables) (id : ℕ) (id< : id < 256) (live : objects_named t.sessio
     past_row : length row ≤ slot_of (place o.number) used
     past_row = rw (row_length t.objects id inside) none_left
 
-    pub put_full : stored_object t.sessions t.objects id o ≡ Full
+    pub put_full : stored_object t.sessions t.objects id o ≡ (Ok Full)
     put_full =
-        sym (stored_is t.sessions t.objects id o Live live)
-        ∙ ap (λ (b : Bool). cond b (Count (used_after (place o.number) used)) Full) (le-ltb (slot_of (place o.number) used) (length row) past_row)
+        sym (stored_is t.sessions t.objects id o (Ok true) live)
+        ∙ ap (λ (b : Bool). cond b (Ok (Count (used_after (place o.number) used))) (Ok Full)) (le-ltb (slot_of (place o.number) used) (length row) past_row)
 
     pub put_nothing : put_tables t id o ≡ t
     put_nothing = λ i. record { sessions = ap (keep_stored t.sessions id) put_full i; streams = t.streams; objects = kept i; held = t.held; parts = t.parts; lengths = t.lengths; rebuilt = t.rebuilt }
       where
         kept : stored_objects t.sessions t.objects id o ≡ t.objects
-        kept = sym (kept_is t.sessions t.objects id o Live live) ∙ ap (with_object_row t.objects id) (set_out row (slot_of (place o.number) used) o past_row) ∙ row_same t.objects id inside
+        kept = sym (kept_is t.sessions t.objects id o (Ok true) live) ∙ ap (with_object_row t.objects id) (set_out row (slot_of (place o.number) used) o past_row) ∙ row_same t.objects id inside
 
   -- ---- remove
 
@@ -190,16 +187,16 @@ module _ (t : Tables) (id : ℕ) (id< : id < 256) (live : objects_named t.sessio
   gone k = record { sessions = keep_used t.sessions id (used - 1); streams = t.streams; objects = with_object_row t.objects id (set row k last); held = t.held; parts = t.parts; lengths = t.lengths; rebuilt = t.rebuilt }
 
   -- the tables after a removal, by the place of what is removed: what has a dependant stays
-  abbrev pub dropped : Place → Tables
-  dropped (At k) = cond (depended_at row used fits (At k)) t (gone k)
-  dropped Nowhere = t
+  abbrev pub dropped : Option ℕ → Tables
+  dropped (Some k) = cond (depended_at row used fits (Some k)) t (gone k)
+  dropped None = t
 
   pub by_place : (n : ObjectNumber) → drop_tables t id n ≡ dropped (place n)
   by_place n =
       (λ i. record {
-        sessions = ap (keep_removed t.sessions id) (sym (taken_is t.sessions t.objects id n Live live)) i;
+        sessions = ap (keep_removed t.sessions id) (sym (taken_is t.sessions t.objects id n (Ok true) live)) i;
         streams = t.streams;
-        objects = sym (removed_is t.sessions t.objects id n Live live) i;
+        objects = sym (removed_is t.sessions t.objects id n (Ok true) live) i;
         held = t.held;
         parts = t.parts;
         lengths = t.lengths;
@@ -209,20 +206,20 @@ module _ (t : Tables) (id : ℕ) (id< : id < 256) (live : objects_named t.sessio
     where
       at : (k : ℕ) (b : Bool)
           → ◌≡◌ {A = Tables}
-          (record { sessions = keep_removed t.sessions id (cond b Depended (Gone (get_or row k blank))); streams = t.streams; objects = with_object_row t.objects id (cond b row (set row k last)); held = t.held; parts = t.parts; lengths = t.lengths; rebuilt = t.rebuilt })
+          (record { sessions = keep_removed t.sessions id (cond b (Ok Depended) (Ok (Gone (get_or row k blank)))); streams = t.streams; objects = with_object_row t.objects id (cond b row (set row k last)); held = t.held; parts = t.parts; lengths = t.lengths; rebuilt = t.rebuilt })
           (cond b t (gone k))
       at k true = λ i. record { sessions = t.sessions; streams = t.streams; objects = row_same t.objects id inside i; held = t.held; parts = t.parts; lengths = t.lengths; rebuilt = t.rebuilt }
       at k false = refl
 
-      by : (p : Place)
+      by : (p : Option ℕ)
           → ◌≡◌ {A = Tables}
           (record { sessions = keep_removed t.sessions id (taken_of row used p); streams = t.streams; objects = with_object_row t.objects id (removed_row row used p); held = t.held; parts = t.parts; lengths = t.lengths; rebuilt = t.rebuilt })
           (dropped p)
-      by (At k) = at k (depended_at row used fits (At k))
-      by Nowhere = λ i. record { sessions = t.sessions; streams = t.streams; objects = row_same t.objects id inside i; held = t.held; parts = t.parts; lengths = t.lengths; rebuilt = t.rebuilt }
+      by (Some k) = at k (depended_at row used fits (Some k))
+      by None = λ i. record { sessions = t.sessions; streams = t.streams; objects = row_same t.objects id inside i; held = t.held; parts = t.parts; lengths = t.lengths; rebuilt = t.rebuilt }
 
-  pub dropped_part : (p : Place) → Under used p → table_part (dropped p) id ≡ with_counted (left row used fits p) (removed_row row used p) (table_part t id)
-  dropped_part (At k) h = by (depended_at row used fits (At k))
+  pub dropped_part : (p : Option ℕ) → Under used p → table_part (dropped p) id ≡ with_counted (left row used fits p) (removed_row row used p) (table_part t id)
+  dropped_part (Some k) h = by (depended_at row used fits (Some k))
     where
       by : (b : Bool) → table_part (cond b t (gone k)) id ≡ with_counted (cond b used (used - 1)) (cond b row (set row k last)) (table_part t id)
       by true = refl
@@ -236,14 +233,14 @@ module _ (t : Tables) (id : ℕ) (id< : id < 256) (live : objects_named t.sessio
             objects = row_seen t.objects id inside (set row k last) (length-set row k last ∙ row_length t.objects id inside) i;
             streams = stream_rows t.streams id;
           }
-  dropped_part Nowhere h = refl
+  dropped_part None h = refl
 
   -- the store with a record less, as one record that is set
   pub gone_set : (k : ℕ) → k < used → (gone k).objects ≡ set t.objects (first_object id + k) last
   gone_set k h = row_set t.objects id inside k last (omega (arith, row_length t.objects id inside, fits))
 
-  pub dropped_part_elsewhere : (j : ℕ) → j ≢ id → (p : Place) → Under used p → table_part (dropped p) j ≡ table_part t j
-  dropped_part_elsewhere j h (At k) u = by (depended_at row used fits (At k))
+  pub dropped_part_elsewhere : (j : ℕ) → j ≢ id → (p : Option ℕ) → Under used p → table_part (dropped p) j ≡ table_part t j
+  dropped_part_elsewhere j h (Some k) u = by (depended_at row used fits (Some k))
     where
       by : (b : Bool) → table_part (cond b t (gone k)) j ≡ table_part t j
       by true = refl
@@ -257,7 +254,7 @@ module _ (t : Tables) (id : ℕ) (id< : id < 256) (live : objects_named t.sessio
             objects = (ap (λ (l : List Object). object_row l j) (gone_set k u) ∙ row_elsewhere t.objects id k j last (omega (arith, row_length t.objects id inside, fits)) h) i;
             streams = stream_rows t.streams j;
           }
-  dropped_part_elsewhere j h Nowhere u = refl
+  dropped_part_elsewhere j h None u = refl
 
   pub drop_here : Distinct (object_numbers (objects_of t id)) → (n : ObjectNumber) → local_of (drop_tables t id n) id ≡ with_objects (remove_in (objects_of t id) n.0) (local_of t id)
   drop_here different n =

@@ -3,7 +3,6 @@ use Prim.Native.Nat.{ℕ, zero, suc, ◌+◌, ◌-◌, ◌*◌, ◌<◌, ◌≤�
 use mathlib.Core.Path.{◌≡◌, refl, sym, ap, ◌∙◌}
 use mathlib.Core.Logic.{◌≢◌}
 use mathlib.Core.Bool.{Bool, true, false, cond}
-use mathlib.Core.Option.{Option, none, some}
 use mathlib.Core.List.{List, [], ◌∷◌}
 use native.Mathlib.Omega.{arith}
 use borrow.Author.Tests.{le-leb, eqb-true, eqb-false, leb-true, leb-false}
@@ -25,11 +24,10 @@ use Rattle.sessions.specs.FragmentStore.{empty_store}
 use Rattle.sessions.specs.View.{Tables, KeptStream, Local, Part, start_of, shown_from, stream_rows, listed, opened, table_part, session_shown, local_shown, local_of, lapsed, expired_at}
 use Rattle.sessions.specs.Calls.{with_sessions, create_tables}
 use Rattle.sessions.specs.declared.table.ClientSession.{ClientSession}
-use Rattle.sessions.specs.declared.table.Named.{Named}
-use Rattle.sessions.specs.declared.table.Named.TheVariants.{Live, NotLive, Refused}
-use Rattle.sessions.specs.declared.opening.Created.TheVariants.{Opened}
 use Rattle.sessions.proofs.StreamBack.{new_shown}
 use Rattle.sessions.proofs.Parts.{part_below, part_above, part_within}
+use Rattle.std.specs.Prelude.{Err, Ok, Result, Option, None, Some}
+use Rattle.codec.specs.declared.refusals.Refusal.{Refusal}
 
 -- ---- one row of the table
 
@@ -41,11 +39,11 @@ module _ (rows : List (List ℕ)) (id : ℕ) (s : ClientSession) where
   kept_elsewhere j h = ap session_of (get_or-set_other rows id j (row_of s) [] h)
 
   -- a change of a live session: here, elsewhere, and where the id is free
-  live_named : 256 ≤ length rows → is_free rows id ≡ false → named_of rows id ≡ Live
+  live_named : 256 ≤ length rows → is_free rows id ≡ false → named_of rows id ≡ (Ok true)
   unfolding named_of
   live_named h e = rw (le-leb 256 (length rows) h, e)
 
-  free_named : 256 ≤ length rows → is_free rows id ≡ true → named_of rows id ≡ NotLive
+  free_named : 256 ≤ length rows → is_free rows id ≡ true → named_of rows id ≡ (Ok false)
   unfolding named_of
   free_named h e = rw (le-leb 256 (length rows) h, e)
 
@@ -55,10 +53,10 @@ module _ (rows : List (List ℕ)) (id : ℕ) (s : ClientSession) where
   pub live_elsewhere : (j : ℕ) → j ≢ id → session_at (kept_rows (named_of rows id) rows id s) j ≡ session_at rows j
   live_elsewhere j h = by (named_of rows id)
     where
-      by : (w : Named) → session_at (kept_rows w rows id s) j ≡ session_at rows j
-      by Live = kept_elsewhere j h
-      by NotLive = refl
-      by (Refused r) = refl
+      by : (w : Result Bool Refusal) → session_at (kept_rows w rows id s) j ≡ session_at rows j
+      by (Ok true) = kept_elsewhere j h
+      by (Ok false) = refl
+      by (Err r) = refl
 
   pub free_kept : 256 ≤ length rows → is_free rows id ≡ true → kept_rows (named_of rows id) rows id s ≡ rows
   free_kept h e = rw (free_named h e) refl
@@ -92,14 +90,14 @@ module _ (t : Tables) (id : ℕ) (long : 256 ≤ length t.sessions) (id< : id < 
     pub changed_free : is_free t.sessions id ≡ true → changed ≡ t
     changed_free e = ap (with_sessions t) (free_kept t.sessions id s long e)
 
-  not_live : is_free t.sessions id ≡ true → local_of t id ≡ none
+  not_live : is_free t.sessions id ≡ true → local_of t id ≡ None
   not_live e = rw e refl
 
   -- ---- touch
 
   abbrev pub touched_local : ℕ → Option Local → Option Local
-  touched_local time none = none
-  touched_local time (some l) = some (record { id = l.id; key = l.key; last = time; objects = l.objects; streams = l.streams; store = l.store })
+  touched_local time None = None
+  touched_local time (Some l) = Some (record { id = l.id; key = l.key; last = time; objects = l.objects; streams = l.streams; store = l.store })
 
   pub touch_here : (time : ℕ) → local_of (with_sessions t (touched_rows t.sessions id time)) id ≡ touched_local time (local_of t id)
   unfolding touched_rows
@@ -121,11 +119,11 @@ module _ (t : Tables) (id : ℕ) (long : 256 ≤ length t.sessions) (id< : id < 
 
   -- ---- remove: nothing is left of the session
 
-  pub remove_here : local_of (with_sessions t (ended_rows t.sessions id)) id ≡ none
+  pub remove_here : local_of (with_sessions t (ended_rows t.sessions id)) id ≡ None
   unfolding ended_rows
   remove_here = by (is_free t.sessions id) refl
     where
-      by : (b : Bool) → is_free t.sessions id ≡ b → local_of (changed ended_session) id ≡ none
+      by : (b : Bool) → is_free t.sessions id ≡ b → local_of (changed ended_session) id ≡ None
       by true e = ap (λ (u : Tables). local_of u id) (changed_free ended_session e) ∙ not_live e
       by false e = ap (local_shown id) (changed_here ended_session e)
 
@@ -137,7 +135,7 @@ module _ (t : Tables) (id : ℕ) (long : 256 ≤ length t.sessions) (id< : id < 
 
 -- the tables where it opens one
 abbrev pub opened_tables : Tables → ℕ → ℕ → ℕ → ℕ → Tables
-opened_tables t id next key time = create_tables (Opened id next) t key time
+opened_tables t id next key time = create_tables (Ok (id, next)) t key time
 
 -- a row of streams that another session's does not touch
 pub streams_elsewhere : (streams : List (List ℕ)) (id k j : ℕ) (w : List ℕ) → k < 8 → j ≢ id → stream_rows (set streams (first_stream id + k) w) j ≡ stream_rows streams j
@@ -190,11 +188,11 @@ module _ (t : Tables) (id next key time : ℕ) (long : 256 ≤ length t.sessions
       by [] e = let z : ⊥ = omega arith in absurd z
       by (x ∷ l) e = ap (λ (k : KeptStream). k ∷ []) (new_shown (buffer_at held 0) 0 (omega arith))
 
-  pub open_here : local_of (opened_tables t id next key time) id ≡ some (start_of id key time)
+  pub open_here : local_of (opened_tables t id next key time) id ≡ Some (start_of id key time)
   unfolding listed slots_of
   open_here =
       ap (local_shown id) opened_here
-      ∙ ap (λ (ks : List KeptStream). some (record { id = id; key = key; last = time; objects = []; streams = ks; store = empty_store })) (one_open (held_part t.held made))
+      ∙ ap (λ (ks : List KeptStream). Some (record { id = id; key = key; last = time; objects = []; streams = ks; store = empty_store })) (one_open (held_part t.held made))
 
   pub open_elsewhere : (j : ℕ) → j ≢ id → local_of (opened_tables t id next key time) j ≡ local_of t j
   open_elsewhere j h = ap (local_shown j) (opened_elsewhere j h)
@@ -267,7 +265,7 @@ module _ (time timeout : ℕ) where
   goes_view t j = by (is_free t.sessions j)
     where
       by : (b : Bool) → cond b false (ltb timeout (time - (session_at t.sessions j).last_activity))
-          ≡ lapsed time timeout (cond b none (some (session_shown j (table_part t j))))
+          ≡ lapsed time timeout (cond b None (Some (session_shown j (table_part t j))))
       by true = refl
       by false = refl
 
@@ -279,10 +277,10 @@ module _ (time timeout : ℕ) where
 
   -- "a sweep when it is expired, ends it"; every other session stays
   pub sweep_view : (t : Tables) (j : ℕ) → 256 ≤ length t.sessions → 1 ≤ j → j < 256
-      → local_of (with_sessions t (swept_rows t.sessions time timeout)) j ≡ cond (lapsed time timeout (local_of t j)) none (local_of t j)
-  sweep_view t j long a b = ap (local_shown j) (swept_part t j long a b) ∙ by (goes t.sessions time timeout j) ∙ ap (λ (g : Bool). cond g none (local_of t j)) (goes_view t j)
+      → local_of (with_sessions t (swept_rows t.sessions time timeout)) j ≡ cond (lapsed time timeout (local_of t j)) None (local_of t j)
+  sweep_view t j long a b = ap (local_shown j) (swept_part t j long a b) ∙ by (goes t.sessions time timeout j) ∙ ap (λ (g : Bool). cond g None (local_of t j)) (goes_view t j)
     where
-      by : (g : Bool) → local_shown j (with_session t (cond g ended_session (session_at t.sessions j)) (table_part t j)) ≡ cond g none (local_of t j)
+      by : (g : Bool) → local_shown j (with_session t (cond g ended_session (session_at t.sessions j)) (table_part t j)) ≡ cond g None (local_of t j)
       by true = refl
       by false = refl
 

@@ -1,5 +1,5 @@
 -- The calls on the tables one behind the other, and what holds of all tables that they lead to.
-use Rattle.std.specs.Prelude.{ℕ, ◌<◌, ◌≤◌, ◌≡◌, true, false, List, [], ◌∷◌, eqb, length, get_or}
+use Rattle.std.specs.Prelude.{ℕ, ◌<◌, ◌≤◌, ◌≡◌, true, false, List, [], ◌∷◌, eqb, length, get_or, Result}
 use Rattle.codec.specs.declared.submessages.ObjectNumber.{ObjectNumber}
 use Rattle.streams.specs.State.{new_stream}
 use Rattle.streams.specs.Sent.{alloc_of, record_of}
@@ -21,19 +21,18 @@ use Rattle.sessions.specs.Streams.{stream_of, stream_row}
 use Rattle.sessions.specs.Sending.{sent_streams, sent_held}
 use Rattle.sessions.specs.View.{Tables, Part, table_part, objects_shown, streams_shown, Distinct, object_numbers, stream_numbers}
 use Rattle.sessions.specs.declared.objects.Object.{Object}
-use Rattle.sessions.specs.declared.opening.Created.{Created}
-use Rattle.sessions.specs.declared.setup.SetUp.{SetUp}
+use Rattle.codec.specs.declared.refusals.Refusal.{Refusal}
 
 -- ---- the tables behind each call, by the definitions that its contract cites; the other calls change none
 
 abbrev pub with_sessions : Tables → List (List ℕ) → Tables
 with_sessions t rows = record { sessions = rows; streams = t.streams; objects = t.objects; held = t.held; parts = t.parts; lengths = t.lengths; rebuilt = t.rebuilt }
 
-abbrev pub set_up_tables : SetUp → Tables → Tables
+abbrev pub set_up_tables : Result ℕ Refusal → Tables → Tables
 set_up_tables r t =
     record { sessions = leaves r (empty_sessions t.sessions) t.sessions; streams = leaves r (empty_streams t.streams) t.streams; objects = leaves r (empty_objects t.objects) t.objects; held = t.held; parts = t.parts; lengths = t.lengths; rebuilt = t.rebuilt }
 
-abbrev pub create_tables : Created → Tables → ℕ → ℕ → Tables
+abbrev pub create_tables : Result (ℕ × ℕ) Refusal → Tables → ℕ → ℕ → Tables
 create_tables c t key time = record { sessions = opened_rows c t.sessions key time; streams = opened_streams c t.streams; objects = t.objects; held = t.held; parts = t.parts; lengths = t.lengths; rebuilt = t.rebuilt }
 
 abbrev pub put_tables : Tables → ℕ → Object → Tables

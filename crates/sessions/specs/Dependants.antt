@@ -1,7 +1,6 @@
 -- Document 02, W3, on the list of objects: "An object has a dependant if it is a Participant that a Topic names as parent, or a Topic that a DataWriter
 -- or DataReader names."
-use Rattle.std.specs.Prelude.{ℕ, Bool, true, false, cond, List, [], ◌∷◌, eqb}
-use Rattle.std.proofs.Math.Option.{Option, none, some}
+use Rattle.std.specs.Prelude.{ℕ, Bool, true, false, cond, List, [], ◌∷◌, eqb, Option, None, Some}
 use Rattle.codec.specs.Submessages.{kind_byte}
 use Rattle.codec.specs.declared.submessages.ObjectKind.TheVariants.{Participant, Topic, DataWriter, DataReader}
 use Rattle.sessions.specs.View.{Entry}
@@ -22,5 +21,5 @@ dependant_in (e ∷ es) x = cond (depends_on e x) true (dependant_in es x)
 
 -- "An object has a dependant": the object of a number, if there is one
 abbrev pub has_dependant : List Entry → Option Entry → Bool
-has_dependant es none = false
-has_dependant es (some x) = dependant_in es x
+has_dependant es None = false
+has_dependant es (Some x) = dependant_in es x

@@ -1,14 +1,8 @@
 -- The fragments of a session over the lent stores (document 02, W6): slots and lengths lie by the session's slot, as `ReassemblyBuffer` has them, and
 -- the bytes that a fragment completes are assembled in their own place.
-use Rattle.std.specs.Prelude.{ℕ, suc, ◌*◌, Bool, true, false, cond, List, eqb, leb, length}
+use Rattle.std.specs.Prelude.{ℕ, suc, ◌*◌, Bool, true, false, cond, List, eqb, leb, length, Err, Ok, Result}
 use Rattle.codec.specs.Reassembly.{over_limit, new_of, new_lengths, insert_of, insert_slots, insert_lengths, assemble_of, assemble_out}
-use Rattle.codec.specs.declared.bytes.Written.{Written}
-use Rattle.codec.specs.declared.bytes.Written.TheVariants as written
 use Rattle.codec.specs.declared.reassembly.ReassemblyBuffer.{ReassemblyBuffer}
-use Rattle.codec.specs.declared.reassembly.StoreMade.{StoreMade}
-use Rattle.codec.specs.declared.reassembly.StoreMade.TheVariants as made
-use Rattle.codec.specs.declared.reassembly.Inserted.{Inserted}
-use Rattle.codec.specs.declared.reassembly.Inserted.TheVariants as inserted
 use Rattle.codec.specs.declared.refusals.Refusal.TheVariants.{OverLimit}
 use Rattle.sessions.specs.Need.{most_fragments, most_body, store_bytes}
 use Rattle.sessions.specs.Table.{session_at, keep_session, named_of}
@@ -18,8 +12,7 @@ use Rattle.sessions.specs.declared.fragments.Gathered.{Gathered}
 use Rattle.sessions.specs.declared.fragments.Gathered.TheVariants.{Nothing, Held, Whole}
 use Rattle.sessions.specs.declared.sending.Stretch.{Stretch}
 use Rattle.sessions.specs.declared.table.ClientSession.{ClientSession}
-use Rattle.sessions.specs.declared.table.Named.{Named}
-use Rattle.sessions.specs.declared.table.Named.TheVariants as named
+use Rattle.codec.specs.declared.refusals.Refusal.{Refusal}
 
 -- ---- where a slot's part of a store stands: `width` entries for each slot; none where the store is too short for it
 
@@ -41,10 +34,10 @@ abbrev pub buffer_with : ℕ → ℕ → ReassemblyBuffer
 buffer_with total received = record { total_fragments = total; received_count = received; width = most_body }
 
 -- the one that a fragment goes into: "A fragment with another total empties the store first."
-abbrev pub kept_store : ClientSession → ℕ → StoreMade
-kept_store s total = cond (leb s.received most_fragments) (made.Store (buffer_with total s.received)) (made.Refused OverLimit)
+abbrev pub kept_store : ClientSession → ℕ → Result ReassemblyBuffer Refusal
+kept_store s total = cond (leb s.received most_fragments) (Ok (buffer_with total s.received)) (Err OverLimit)
 
-unfoldable pub store_for : ClientSession → ℕ → List ℕ → List ℕ → StoreMade
+unfoldable pub store_for : ClientSession → ℕ → List ℕ → List ℕ → Result ReassemblyBuffer Refusal
 store_for s total parts lengths = cond (eqb s.total total) (kept_store s total) (new_of total most_body parts lengths)
 
 unfoldable pub lengths_for : ClientSession → ℕ → List ℕ → List ℕ → List ℕ
@@ -57,35 +50,35 @@ fragments_over s parts lengths = over_limit (buffer_with s.total s.received) par
 -- ---- a fragment, over the session's own part of the stores: what it comes to, and what it leaves
 
 -- "When the last missing number comes, .. the rebuilt bytes": in their place, or kept as it is where they cannot be assembled
-abbrev pub assembled_as : Written → ReassemblyBuffer → Gathered
-assembled_as (written.Bytes n) b = Whole n
-assembled_as (written.Refused r) b = Held b
+abbrev pub assembled_as : Result ℕ Refusal → ReassemblyBuffer → Gathered
+assembled_as (Ok n) b = Whole n
+assembled_as (Err r) b = Held b
 
-abbrev pub gathered_by : Inserted → List ℕ → List ℕ → List ℕ → Gathered
-gathered_by (inserted.Held b all) parts lengths rebuilt = cond all (assembled_as (assemble_of b parts lengths rebuilt) b) (Held b)
-gathered_by (inserted.Refused r) parts lengths rebuilt = Nothing
+abbrev pub gathered_by : Result (ReassemblyBuffer × Bool) Refusal → List ℕ → List ℕ → List ℕ → Gathered
+gathered_by (Ok (b, all)) parts lengths rebuilt = cond all (assembled_as (assemble_of b parts lengths rebuilt) b) (Held b)
+gathered_by (Err r) parts lengths rebuilt = Nothing
 
-abbrev pub rebuilt_by : Inserted → List ℕ → List ℕ → List ℕ → List ℕ
-rebuilt_by (inserted.Held b all) parts lengths rebuilt = cond all (assemble_out b parts lengths rebuilt) rebuilt
-rebuilt_by (inserted.Refused r) parts lengths rebuilt = rebuilt
+abbrev pub rebuilt_by : Result (ReassemblyBuffer × Bool) Refusal → List ℕ → List ℕ → List ℕ → List ℕ
+rebuilt_by (Ok (b, all)) parts lengths rebuilt = cond all (assemble_out b parts lengths rebuilt) rebuilt
+rebuilt_by (Err r) parts lengths rebuilt = rebuilt
 
-abbrev pub gathered_with : StoreMade → List ℕ → List ℕ → List ℕ → ℕ → List ℕ → Gathered
-gathered_with (made.Store b) parts lengths rebuilt nr body =
+abbrev pub gathered_with : Result ReassemblyBuffer Refusal → List ℕ → List ℕ → List ℕ → ℕ → List ℕ → Gathered
+gathered_with (Ok b) parts lengths rebuilt nr body =
     gathered_by (insert_of b parts lengths nr body) (insert_slots b parts lengths nr body) (insert_lengths b parts lengths nr body) rebuilt
-gathered_with (made.Refused r) parts lengths rebuilt nr body = Nothing
+gathered_with (Err r) parts lengths rebuilt nr body = Nothing
 
-abbrev pub parts_with : StoreMade → List ℕ → List ℕ → ℕ → List ℕ → List ℕ
-parts_with (made.Store b) parts lengths nr body = insert_slots b parts lengths nr body
-parts_with (made.Refused r) parts lengths nr body = parts
+abbrev pub parts_with : Result ReassemblyBuffer Refusal → List ℕ → List ℕ → ℕ → List ℕ → List ℕ
+parts_with (Ok b) parts lengths nr body = insert_slots b parts lengths nr body
+parts_with (Err r) parts lengths nr body = parts
 
-abbrev pub lengths_with : StoreMade → List ℕ → List ℕ → ℕ → List ℕ → List ℕ
-lengths_with (made.Store b) parts lengths nr body = insert_lengths b parts lengths nr body
-lengths_with (made.Refused r) parts lengths nr body = lengths
+abbrev pub lengths_with : Result ReassemblyBuffer Refusal → List ℕ → List ℕ → ℕ → List ℕ → List ℕ
+lengths_with (Ok b) parts lengths nr body = insert_lengths b parts lengths nr body
+lengths_with (Err r) parts lengths nr body = lengths
 
-abbrev pub rebuilt_with : StoreMade → List ℕ → List ℕ → List ℕ → ℕ → List ℕ → List ℕ
-rebuilt_with (made.Store b) parts lengths rebuilt nr body =
+abbrev pub rebuilt_with : Result ReassemblyBuffer Refusal → List ℕ → List ℕ → List ℕ → ℕ → List ℕ → List ℕ
+rebuilt_with (Ok b) parts lengths rebuilt nr body =
     rebuilt_by (insert_of b parts lengths nr body) (insert_slots b parts lengths nr body) (insert_lengths b parts lengths nr body) rebuilt
-rebuilt_with (made.Refused r) parts lengths rebuilt nr body = rebuilt
+rebuilt_with (Err r) parts lengths rebuilt nr body = rebuilt
 
 unfoldable pub gathered_in : ClientSession → List ℕ → List ℕ → List ℕ → ℕ → ℕ → List ℕ → Gathered
 gathered_in s parts lengths rebuilt nr total body =
@@ -113,10 +106,10 @@ gathered_session s (Whole n) = stored_session s 0 0
 
 -- ---- over the lent stores: a fragment that is allowed, of a session that is live; any other changes nothing
 
-abbrev pub is_live : Named → Bool
-is_live named.Live = true
-is_live named.NotLive = false
-is_live (named.Refused r) = false
+abbrev pub is_live : Result Bool Refusal → Bool
+is_live (Ok true) = true
+is_live (Ok false) = false
+is_live (Err r) = false
 
 abbrev pub takes : List (List ℕ) → ℕ → ℕ → ℕ → ℕ → Bool
 takes sessions id nr total len = cond (is_live (named_of sessions id)) (allowed nr total len) false

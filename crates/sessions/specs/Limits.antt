@@ -1,5 +1,5 @@
 -- 16 of one session: "Given others, a call still answers, or refuses as 16, right after 15, where a count, length or place in them exceeds its limit."
-use Rattle.std.specs.Prelude.{ℕ, Bool, true, false, cond, not, List, eqb, leb, ltb, get_or, length}
+use Rattle.std.specs.Prelude.{ℕ, Bool, true, false, cond, not, List, eqb, leb, ltb, get_or, length, Err, Ok, Result}
 use Rattle.codec.specs.declared.refusals.Refusal.TheVariants.{OverLimit}
 use Rattle.sessions.specs.Need.{most_objects, most_streams, most_fragments, stores_fit}
 use Rattle.sessions.specs.Sending.{room_of}
@@ -9,8 +9,7 @@ use Rattle.sessions.specs.Table.{session_at}
 use Rattle.sessions.specs.SessionStreams.{stream_place, state_at}
 use Rattle.sessions.specs.declared.objects.Object.{Object}
 use Rattle.sessions.specs.declared.table.ClientSession.{ClientSession}
-use Rattle.sessions.specs.declared.limits.Limits.{Limits}
-use Rattle.sessions.specs.declared.limits.Limits.TheVariants.{Within, Refused}
+use Rattle.codec.specs.declared.refusals.Refusal.{Refusal}
 
 -- "A session holds 32 objects and 8 streams, stream 0 included."
 abbrev pub counts_kept : ClientSession → Bool
@@ -46,11 +45,11 @@ rows_kept sessions streams parts lengths max id n =
     let s = session_at sessions id in
     cond (counts_kept s) (cond (slot_kept s max) (cond (store_kept sessions parts lengths id) (lengths_kept sessions streams id n) false) false) false
 
-abbrev pub limits_from : List (List ℕ) → List (List ℕ) → ℕ → List ℕ → ℕ → ℕ → ℕ → Limits
-limits_from sessions streams parts lengths max id n = cond (rows_kept sessions streams parts lengths max id n) Within (Refused OverLimit)
+abbrev pub limits_from : List (List ℕ) → List (List ℕ) → ℕ → List ℕ → ℕ → ℕ → ℕ → Result (Unit {0}) Refusal
+limits_from sessions streams parts lengths max id n = cond (rows_kept sessions streams parts lengths max id n) (Ok tt) (Err OverLimit)
 
 -- the stores; of the session that a call names, live or not, the counts and the fragments; and the stream that it names
-unfoldable pub limits_of : List (List ℕ) → List (List ℕ) → List Object → ℕ → ℕ → List ℕ → ℕ → ℕ → ℕ → ℕ → Limits
+unfoldable pub limits_of : List (List ℕ) → List (List ℕ) → List Object → ℕ → ℕ → List ℕ → ℕ → ℕ → ℕ → ℕ → Result (Unit {0}) Refusal
 limits_of sessions streams objects held parts lengths rebuilt max id n =
     cond (stores_fit (length sessions) (length streams) (length objects) held parts (length lengths) rebuilt max)
-    (limits_from sessions streams parts lengths max id n) (Refused OverLimit)
+    (limits_from sessions streams parts lengths max id n) (Err OverLimit)

@@ -1,9 +1,8 @@
 -- "The agent's documented need is at most 1,048,576 × (`max_clients` + 1) bytes in all, records counted by their fields."
-use Rattle.std.specs.Prelude.{ℕ, ◌+◌, ◌-◌, ◌*◌, Bool, false, cond, leb}
+use Rattle.std.specs.Prelude.{ℕ, ◌+◌, ◌-◌, ◌*◌, Bool, false, cond, leb, Err, Ok, Result}
 use Rattle.codec.specs.declared.refusals.Refusal.TheVariants.{OverLimit}
 use Rattle.sessions.specs.declared.need.Need.{Need}
-use Rattle.sessions.specs.declared.need.Needed.{Needed}
-use Rattle.sessions.specs.declared.need.Needed.TheVariants.{Stores, Refused}
+use Rattle.codec.specs.declared.refusals.Refusal.{Refusal}
 
 -- "A session holds 32 objects and 8 streams, stream 0 included."
 abbrev pub most_objects : ℕ
@@ -61,8 +60,8 @@ need_of max =
     record { sessions = sessions_need; streams = streams_need; objects = objects_need; held = held_need max; parts = parts_need max; lengths = lengths_need max; rebuilt = rebuilt_need; hours = hours_need; bytes = sessions_need * (8 * 8) + streams_need * (35 * 2) + objects_need * (2 + 1 + 1 + 4 + 2) + rebuilt_need + hours_need + held_need max + parts_need max + 4 * lengths_need max }
 
 -- 16: "`max_clients` over 255"
-unfoldable pub needed_for : ℕ → Needed
-needed_for max = cond (leb max 255) (Stores (need_of max)) (Refused OverLimit)
+unfoldable pub needed_for : ℕ → Result Need Refusal
+needed_for max = cond (leb max 255) (Ok (need_of max)) (Err OverLimit)
 
 abbrev pub fragments_fit : ℕ → ℕ → ℕ → ℕ → Bool
 fragments_fit parts lengths rebuilt max = cond (leb (parts_need max) parts) (cond (leb (lengths_need max) lengths) (leb rebuilt_need rebuilt) false) false

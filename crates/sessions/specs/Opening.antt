@@ -1,14 +1,11 @@
 -- Opening a session: "`create_session` takes the next free id, and its pointer goes on from there; after 255 comes 1. Freed ids are used again."
-use Rattle.std.specs.Prelude.{ℕ, zero, suc, ◌+◌, ◌*◌, Bool, true, false, cond, not, List, [], ◌∷◌, eqb, leb, ltb, length, get_or, set}
+use Rattle.std.specs.Prelude.{ℕ, zero, suc, ◌+◌, ◌*◌, Bool, true, false, cond, not, List, [], ◌∷◌, eqb, leb, ltb, length, get_or, set, Err, Ok, Result}
 use Rattle.codec.specs.declared.refusals.Refusal.TheVariants.{OverLimit, SessionFull}
 use Rattle.streams.specs.Places.{first_from}
 use Rattle.streams.specs.State.{new_stream}
 use Rattle.sessions.specs.Table.{session_at, is_free, table_fits, keep_session, new_session}
 use Rattle.sessions.specs.Streams.{keep_stream, streams_fit, first_stream}
-use Rattle.sessions.specs.declared.opening.Counted.{Counted}
-use Rattle.sessions.specs.declared.opening.Counted.TheVariants as counted
-use Rattle.sessions.specs.declared.opening.Created.{Created}
-use Rattle.sessions.specs.declared.opening.Created.TheVariants.{Opened, Refused}
+use Rattle.codec.specs.declared.refusals.Refusal.{Refusal}
 
 -- "after 255 comes 1"
 abbrev pub after : ℕ → ℕ
@@ -22,8 +19,8 @@ live_from free i (suc n) = cond (free i) 0 1 + live_from free (suc i) n
 unfoldable pub live_of : List (List ℕ) → ℕ
 live_of rows = live_from (is_free rows) 1 255
 
-unfoldable pub counted_of : List (List ℕ) → Counted
-counted_of rows = cond (table_fits rows) (counted.Sessions (live_of rows)) (counted.Refused OverLimit)
+unfoldable pub counted_of : List (List ℕ) → Result ℕ Refusal
+counted_of rows = cond (table_fits rows) (Ok (live_of rows)) (Err OverLimit)
 
 -- "the next free id": of n ids from i on the first that is free, or 0
 unfoldable pub free_from : (ℕ → Bool) → ℕ → ℕ → ℕ
@@ -38,14 +35,14 @@ unfoldable pub open_fits : List (List ℕ) → List (List ℕ) → ℕ → ℕ �
 open_fits rows streams max next = cond (table_fits rows) (cond (streams_fit streams) (cond (leb max 255) (ltb 0 next) false) false) false
 
 -- 6: "`max_clients` sessions live"
-abbrev pub taken_as : ℕ → Created
-taken_as id = cond (eqb id 0) (Refused SessionFull) (Opened id (after id))
+abbrev pub taken_as : ℕ → Result (ℕ × ℕ) Refusal
+taken_as id = cond (eqb id 0) (Err SessionFull) (Ok (id, (after id)))
 
-unfoldable pub chosen_of : List (List ℕ) → ℕ → ℕ → Created
-chosen_of rows max next = cond (ltb (live_of rows) max) (taken_as (free_of rows next)) (Refused SessionFull)
+unfoldable pub chosen_of : List (List ℕ) → ℕ → ℕ → Result (ℕ × ℕ) Refusal
+chosen_of rows max next = cond (ltb (live_of rows) max) (taken_as (free_of rows next)) (Err SessionFull)
 
-unfoldable pub created_of : List (List ℕ) → List (List ℕ) → ℕ → ℕ → Created
-created_of rows streams max next = cond (open_fits rows streams max next) (chosen_of rows max next) (Refused OverLimit)
+unfoldable pub created_of : List (List ℕ) → List (List ℕ) → ℕ → ℕ → Result (ℕ × ℕ) Refusal
+created_of rows streams max next = cond (open_fits rows streams max next) (chosen_of rows max next) (Err OverLimit)
 
 -- W5: a live session has a slot of its own in the stores by slot: the lowest that no live session has
 abbrev pub has_slot : List (List ℕ) → ℕ → ℕ → Bool
@@ -74,10 +71,10 @@ abbrev pub unmarked : List ℕ → ℕ → Bool
 unmarked taken k = eqb (get_or taken k 0) 0
 
 -- the session as it starts, and its stream 0; a refusal changes nothing
-abbrev pub opened_rows : Created → List (List ℕ) → ℕ → ℕ → List (List ℕ)
-opened_rows (Opened id next) rows key time = keep_session rows id (new_session key time (free_slot rows))
-opened_rows (Refused r) rows key time = rows
+abbrev pub opened_rows : Result (ℕ × ℕ) Refusal → List (List ℕ) → ℕ → ℕ → List (List ℕ)
+opened_rows (Ok (id, next)) rows key time = keep_session rows id (new_session key time (free_slot rows))
+opened_rows (Err r) rows key time = rows
 
-abbrev pub opened_streams : Created → List (List ℕ) → List (List ℕ)
-opened_streams (Opened id next) streams = keep_stream streams (first_stream id) (new_stream 0)
-opened_streams (Refused r) streams = streams
+abbrev pub opened_streams : Result (ℕ × ℕ) Refusal → List (List ℕ) → List (List ℕ)
+opened_streams (Ok (id, next)) streams = keep_stream streams (first_stream id) (new_stream 0)
+opened_streams (Err r) streams = streams

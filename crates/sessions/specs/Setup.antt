@@ -1,12 +1,11 @@
 -- Set-up, the counterpart of `SessionTable::new`: "An empty agent is one just set up."
-use Rattle.std.specs.Prelude.{ℕ, cond, List, ◌++◌, drop, replicate}
+use Rattle.std.specs.Prelude.{ℕ, cond, List, ◌++◌, drop, replicate, Err, Ok, Result}
 use Rattle.codec.specs.declared.refusals.Refusal.TheVariants.{OverLimit}
 use Rattle.sessions.specs.Need.{sessions_need, streams_need, objects_need, stores_fit}
 use Rattle.sessions.specs.Table.{row_of, ended_session}
 use Rattle.sessions.specs.Objects.{blank}
 use Rattle.sessions.specs.declared.objects.Object.{Object}
-use Rattle.sessions.specs.declared.setup.SetUp.{SetUp}
-use Rattle.sessions.specs.declared.setup.SetUp.TheVariants.{Ready, Refused}
+use Rattle.codec.specs.declared.refusals.Refusal.{Refusal}
 
 -- the first n records of a store say nothing; what it has beyond them stays as it was
 unfoldable pub cleared : {A : Type 0} → ℕ → A → List A → List A
@@ -31,10 +30,10 @@ abbrev pub first_id : ℕ
 first_id = 1
 
 -- 16: "`max_clients` over 255, lent store under its documented need"
-unfoldable pub set_up_of : ℕ → ℕ → ℕ → ℕ → ℕ → ℕ → ℕ → ℕ → SetUp
-set_up_of sessions streams objects held parts lengths rebuilt max = cond (stores_fit sessions streams objects held parts lengths rebuilt max) (Ready first_id) (Refused OverLimit)
+unfoldable pub set_up_of : ℕ → ℕ → ℕ → ℕ → ℕ → ℕ → ℕ → ℕ → Result ℕ Refusal
+set_up_of sessions streams objects held parts lengths rebuilt max = cond (stores_fit sessions streams objects held parts lengths rebuilt max) (Ok first_id) (Err OverLimit)
 
 -- what a store is left as; a refusal changes nothing
-abbrev pub leaves : {A : Type 0} → SetUp → A → A → A
-leaves (Ready next) empty store = empty
-leaves (Refused r) empty store = store
+abbrev pub leaves : {A : Type 0} → Result ℕ Refusal → A → A → A
+leaves (Ok next) empty store = empty
+leaves (Err r) empty store = store

@@ -1,10 +1,9 @@
 -- A sweep: "Sweeps list ids ascending". A sweep "when it is expired, ends it".
-use Rattle.std.specs.Prelude.{ℕ, zero, suc, ◌+◌, Bool, true, false, cond, List, [], ◌∷◌, ltb, length}
+use Rattle.std.specs.Prelude.{ℕ, zero, suc, ◌+◌, Bool, true, false, cond, List, [], ◌∷◌, ltb, length, Err, Result}
 use Rattle.codec.specs.Bytes.{put_of, put_bytes}
-use Rattle.codec.specs.declared.bytes.Written.{Written}
-use Rattle.codec.specs.declared.bytes.Written.TheVariants.{Refused}
 use Rattle.codec.specs.declared.refusals.Refusal.TheVariants.{OverLimit}
 use Rattle.sessions.specs.Table.{session_at, is_free, expired_of, keep_session, ended_session, table_fits}
+use Rattle.codec.specs.declared.refusals.Refusal.{Refusal}
 
 -- a live session that is expired
 unfoldable pub goes : List (List ℕ) → ℕ → ℕ → ℕ → Bool
@@ -31,8 +30,8 @@ unfoldable pub swept_rows : List (List ℕ) → ℕ → ℕ → List (List ℕ)
 swept_rows rows time timeout = swept_from rows time timeout 1 255
 
 -- 16, then 13: one byte for each id; a refusal changes nothing
-unfoldable pub evicted_of : List (List ℕ) → ℕ → ℕ → List ℕ → Written
-evicted_of rows time timeout out = cond (table_fits rows) (put_of out 0 (expired_ids rows time timeout)) (Refused OverLimit)
+unfoldable pub evicted_of : List (List ℕ) → ℕ → ℕ → List ℕ → Result ℕ Refusal
+evicted_of rows time timeout out = cond (table_fits rows) (put_of out 0 (expired_ids rows time timeout)) (Err OverLimit)
 
 unfoldable pub evicted_out : List (List ℕ) → ℕ → ℕ → List ℕ → List ℕ
 evicted_out rows time timeout out = cond (table_fits rows) (put_bytes out 0 (expired_ids rows time timeout)) out

@@ -1,13 +1,9 @@
 -- The table of sessions: 256 rows of numbers, one for each id; row 0 is unused.
-use Rattle.std.specs.Prelude.{ℕ, zero, suc, ◌+◌, ◌-◌, Bool, true, false, cond, List, [], ◌∷◌, eqb, leb, ltb, get_or, set, length}
+use Rattle.std.specs.Prelude.{ℕ, zero, suc, ◌+◌, ◌-◌, Bool, true, false, cond, List, [], ◌∷◌, eqb, leb, ltb, get_or, set, length, Err, None, Ok, Option, Result, Some}
 use Rattle.codec.specs.declared.refusals.Refusal.{Refusal}
 use Rattle.codec.specs.declared.refusals.Refusal.TheVariants.{OverLimit}
 use Rattle.sessions.specs.Need.{sessions_need}
 use Rattle.sessions.specs.declared.table.ClientSession.{ClientSession}
-use Rattle.sessions.specs.declared.table.Named.{Named}
-use Rattle.sessions.specs.declared.table.Named.TheVariants.{Live, NotLive, Refused}
-use Rattle.sessions.specs.declared.table.Got.{Got}
-use Rattle.sessions.specs.declared.table.Got.TheVariants as got
 
 -- ---- a session and its row
 
@@ -51,30 +47,30 @@ table_fits rows = leb sessions_need (length rows)
 abbrev pub is_free : List (List ℕ) → ℕ → Bool
 is_free rows id = eqb (session_at rows id).live 0
 
-unfoldable pub named_of : List (List ℕ) → ℕ → Named
-named_of rows id = cond (table_fits rows) (cond (is_free rows id) NotLive Live) (Refused OverLimit)
+unfoldable pub named_of : List (List ℕ) → ℕ → Result Bool Refusal
+named_of rows id = cond (table_fits rows) (cond (is_free rows id) (Ok false) (Ok true)) (Err OverLimit)
 
 -- the session that the id names
-abbrev pub got_by : Named → List (List ℕ) → ℕ → Got
-got_by Live rows id = got.Session (session_at rows id)
-got_by NotLive rows id = got.NotLive
-got_by (Refused r) rows id = got.Refused r
+abbrev pub got_by : Result Bool Refusal → List (List ℕ) → ℕ → Result (Option ClientSession) Refusal
+got_by (Ok true) rows id = Ok (Some (session_at rows id))
+got_by (Ok false) rows id = (Ok None)
+got_by (Err r) rows id = Err r
 
-unfoldable pub got_of : List (List ℕ) → ℕ → Got
+unfoldable pub got_of : List (List ℕ) → ℕ → Result (Option ClientSession) Refusal
 got_of rows id = got_by (named_of rows id) rows id
 
 -- 16 for the records of a session: "lent store under its documented need, or tables altered past a limit"
 unfoldable pub records_fit : ℕ → ℕ → ℕ → ℕ → Bool
 records_fit used most store need = cond (leb need store) (leb used most) false
 
-unfoldable pub reached_of : List (List ℕ) → ℕ → ℕ → ℕ → ℕ → ℕ → Named
-reached_of rows id used most store need = cond (records_fit used most store need) (named_of rows id) (Refused OverLimit)
+unfoldable pub reached_of : List (List ℕ) → ℕ → ℕ → ℕ → ℕ → ℕ → Result Bool Refusal
+reached_of rows id used most store need = cond (records_fit used most store need) (named_of rows id) (Err OverLimit)
 
 -- a session changes only where it is live; "No such session": nothing changes
-abbrev pub kept_rows : Named → List (List ℕ) → ℕ → ClientSession → List (List ℕ)
-kept_rows Live rows id s = keep_session rows id s
-kept_rows NotLive rows id s = rows
-kept_rows (Refused r) rows id s = rows
+abbrev pub kept_rows : Result Bool Refusal → List (List ℕ) → ℕ → ClientSession → List (List ℕ)
+kept_rows (Ok true) rows id s = keep_session rows id s
+kept_rows (Ok false) rows id s = rows
+kept_rows (Err r) rows id s = rows
 
 -- "the session is touched first with the datagram's time"
 unfoldable pub touched_rows : List (List ℕ) → ℕ → ℕ → List (List ℕ)

@@ -1,6 +1,5 @@
 -- What the tables keep of a session, read as document 01's lists.
-use Rattle.std.specs.Prelude.{ℕ, suc, ◌-◌, ◌<◌, ◌≡◌, Bool, true, false, cond, List, [], ◌∷◌, ◌++◌, map, eqb, ltb, length, take, drop, get_or, set}
-use Rattle.std.proofs.Math.Option.{Option, none, some}
+use Rattle.std.specs.Prelude.{ℕ, suc, ◌-◌, ◌<◌, ◌≡◌, Bool, true, false, cond, List, [], ◌∷◌, ◌++◌, map, eqb, ltb, length, take, drop, get_or, set, None, Some, Option}
 use Rattle.streams.specs.Sent.{bytes_in}
 use Rattle.streams.specs.View.{Kept, kept_of, fresh_of}
 use Rattle.sessions.specs.Table.{session_at, elapsed_of}
@@ -12,8 +11,6 @@ use Rattle.codec.specs.Inserts.{slots_of}
 use Rattle.sessions.specs.FragmentStore.{FragmentStore, empty_store}
 use Rattle.sessions.specs.Fragments.{own_parts, own_lengths}
 use Rattle.sessions.specs.declared.objects.Object.{Object}
-use Rattle.sessions.specs.declared.objects.Place.{Place}
-use Rattle.sessions.specs.declared.objects.Place.TheVariants.{At, Nowhere}
 use Rattle.sessions.specs.declared.table.ClientSession.{ClientSession}
 
 -- ---- what is lent
@@ -37,7 +34,7 @@ pub record Entry : Type 0 where
   pub parent : ℕ
 
 abbrev pub entry_of : Object → Entry
-entry_of o = record { number = o.number.0; kind = o.kind; handle = cond (eqb o.bridged 0) none (some o.handle); parent = o.parent }
+entry_of o = record { number = o.number.0; kind = o.kind; handle = cond (eqb o.bridged 0) None (Some o.handle); parent = o.parent }
 
 -- "a list of streams (number, next to send, expected, held messages)"; a held message is its bytes
 abbrev pub KeptStream : Type 0
@@ -106,7 +103,7 @@ abbrev pub session_shown : ℕ → Part → Local
 session_shown id p = record { id = id; key = p.session.client_key; last = p.session.last_activity; objects = objects_shown p; streams = streams_shown p; store = store_shown p }
 
 abbrev pub local_shown : ℕ → Part → Option Local
-local_shown id p = cond (eqb p.session.live 0) none (some (session_shown id p))
+local_shown id p = cond (eqb p.session.live 0) None (Some (session_shown id p))
 
 abbrev pub objects_of : Tables → ℕ → List Entry
 objects_of t id = objects_shown (table_part t id)
@@ -120,13 +117,13 @@ local_of t id = local_shown id (table_part t id)
 -- ---- all sessions
 
 abbrev pub absent : Option Local → Bool
-absent none = true
-absent (some l) = false
+absent None = true
+absent (Some l) = false
 
 -- a live session that is expired
 abbrev pub lapsed : ℕ → ℕ → Option Local → Bool
-lapsed time timeout none = false
-lapsed time timeout (some l) = expired l time timeout
+lapsed time timeout None = false
+lapsed time timeout (Some l) = expired l time timeout
 
 -- which ids are free, and whose sessions are expired: the tests by which `live_from`, `free_from` and `expired_from` count, choose and list
 abbrev pub free_ids : Tables → ℕ → Bool
@@ -138,36 +135,36 @@ expired_at t time timeout id = lapsed time timeout (local_of t id)
 -- ---- document 01's list of objects
 
 abbrev pub blank_entry : Entry
-blank_entry = record { number = 0; kind = 0; handle = none; parent = 0 }
+blank_entry = record { number = 0; kind = 0; handle = None; parent = 0 }
 
 -- the place of the first object of that number
-abbrev pub one_past : Place → Place
-one_past (At i) = At (suc i)
-one_past Nowhere = Nowhere
+abbrev pub one_past : Option ℕ → Option ℕ
+one_past (Some i) = Some (suc i)
+one_past None = None
 
-abbrev pub place_in : List Entry → ℕ → Place
-place_in [] n = Nowhere
-place_in (e ∷ es) n = cond (eqb e.number n) (At 0) (one_past (place_in es n))
+abbrev pub place_in : List Entry → ℕ → Option ℕ
+place_in [] n = None
+place_in (e ∷ es) n = cond (eqb e.number n) (Some 0) (one_past (place_in es n))
 
-abbrev pub held_at : List Entry → Place → Option Entry
-held_at es (At i) = some (get_or es i blank_entry)
-held_at es Nowhere = none
+abbrev pub held_at : List Entry → Option ℕ → Option Entry
+held_at es (Some i) = Some (get_or es i blank_entry)
+held_at es None = None
 
 abbrev pub find_in : List Entry → ℕ → Option Entry
 find_in es n = held_at es (place_in es n)
 
 -- "lists its object .., in place of one of that number"
-abbrev pub put_entry : List Entry → Place → Entry → List Entry
-put_entry es (At i) e = set es i e
-put_entry es Nowhere e = es ++ (e ∷ [])
+abbrev pub put_entry : List Entry → Option ℕ → Entry → List Entry
+put_entry es (Some i) e = set es i e
+put_entry es None e = es ++ (e ∷ [])
 
 abbrev pub put_in : List Entry → Entry → List Entry
 put_in es e = put_entry es (place_in es e.number) e
 
 -- an object is dropped: the last one moves into its place
-abbrev pub drop_at : List Entry → Place → List Entry
-drop_at es (At i) = take (length es - 1) (set es i (get_or es (length es - 1) blank_entry))
-drop_at es Nowhere = es
+abbrev pub drop_at : List Entry → Option ℕ → List Entry
+drop_at es (Some i) = take (length es - 1) (set es i (get_or es (length es - 1) blank_entry))
+drop_at es None = es
 
 abbrev pub drop_in : List Entry → ℕ → List Entry
 drop_in es n = drop_at es (place_in es n)
@@ -176,13 +173,13 @@ drop_in es n = drop_at es (place_in es n)
 
 -- the stream of a number
 unfoldable pub stream_in : {A : Type 0} → List (Kept A) → ℕ → Option (Kept A)
-stream_in [] n = none
-stream_in (k ∷ ks) n = cond (eqb k.number n) (some k) (stream_in ks n)
+stream_in [] n = None
+stream_in (k ∷ ks) n = cond (eqb k.number n) (Some k) (stream_in ks n)
 
 -- "A session holds .. 8 streams, stream 0 included": the stream of a number is opened where it is not; a ninth isn't
 abbrev pub open_if : {A : Type 0} → Option (Kept A) → List (Kept A) → ℕ → List (Kept A)
-open_if (some k) ks n = ks
-open_if none ks n = cond (ltb (length ks) 8) (ks ++ (fresh_of n ∷ [])) ks
+open_if (Some k) ks n = ks
+open_if None ks n = cond (ltb (length ks) 8) (ks ++ (fresh_of n ∷ [])) ks
 
 abbrev pub open_in : {A : Type 0} → List (Kept A) → ℕ → List (Kept A)
 open_in ks n = open_if (stream_in ks n) ks n

@@ -1,21 +1,19 @@
 // The fragments of a session over the lent stores (document 02, W6), kept by `ReassemblyBuffer`: slots and lengths lie by the
 // session's slot, and the bytes that a fragment completes are assembled in a place of their own.
-ghost use Rattle.std.specs.Prelude.{◌≡◌, ◌-◌, ◌≤◌};
+ghost use Rattle.std.specs.Prelude.{◌≡◌, ◌-◌, ◌≤◌, Ok};
 ghost use Rattle.sessions.specs.Table.{session_at};
 ghost use Rattle.sessions.specs.FragmentStore.{allowed};
-ghost use Rattle.codec.specs.declared.reassembly.Inserted.TheVariants as Inserted;
-ghost use Rattle.sessions.specs.Fragments.{slot_stretch, parts_stretch, lengths_stretch, store_for, lengths_for, gathered_by, rebuilt_by, gathered_with, parts_with, lengths_with, rebuilt_with, gathered_in, parts_after, lengths_after, rebuilt_after, stored_session, gathered_session, takes, gathered, gathered_rows, gathered_parts, gathered_lengths, gathered_rebuilt};
+ghost use Rattle.sessions.specs.Fragments.{slot_stretch, parts_stretch, lengths_stretch, store_for, lengths_for, gathered_by, rebuilt_by, gathered_in, parts_after, lengths_after, rebuilt_after, gathered_session, takes, gathered, gathered_rows, gathered_parts, gathered_lengths, gathered_rebuilt};
 
 use crate::need::{LENGTHS, PARTS};
 use crate::sending::Stretch;
-use crate::table::{ClientSession, Named, SessionRow, keep_session, live_at, session_at};
-use codec::bytes::Written;
-use codec::reassembly::{Inserted, ReassemblyBuffer, StoreMade};
+use crate::table::{ClientSession, SessionRow, keep_session, live_at, session_at};
+use codec::reassembly::ReassemblyBuffer;
 use codec::refusals::Refusal;
 
 // What a fragment comes to: it changes nothing; it is held, in the store as it is then; or it was the last one missing, the
 // store is empty again, and so many rebuilt bytes stand at the start of their place.
-#[derive(Clone, Copy)]
+#[derive(Clone, Copy, Debug, PartialEq, Eq)]
 pub enum Gathered {
     Nothing,
     Held(ReassemblyBuffer),
@@ -26,16 +24,7 @@ pub enum Gathered {
 fn is_allowed(nr: u16, total: u16, len: usize) -> bool
     ensures { result ≡ allowed nr total len }
 {
-    if total == 0 {
-        return false;
-    }
-    if 64 < total {
-        return false;
-    }
-    if total <= nr {
-        return false;
-    }
-    len <= 512
+    total != 0 && total <= 64 && nr < total && len <= 512
 }
 
 // The part of a slot in a store of `store` entries, `width` for each slot; empty where there is none.
@@ -43,17 +32,13 @@ fn slot_stretch(width: usize, slot: u64, store: usize) -> Stretch
     requires { width ≤ 32768 }
     ensures { (result ≡ slot_stretch width slot store) × (result.start ≤ result.end) × (result.end ≤ store) × (result.end - result.start ≤ width) }
 {
-    if 255 < slot {
+    if 255 < slot || store < width * (slot as usize + 1) {
         return Stretch { start: 0, end: 0 };
     }
-    let before = slot as usize;
-    let end = width * (before + 1);
-    if store < end {
-        return Stretch { start: 0, end: 0 };
-    }
+    let start = width * slot as usize;
     Stretch {
-        start: width * before,
-        end,
+        start,
+        end: start + width,
     }
 }
 
@@ -72,15 +57,21 @@ pub fn lengths_stretch(sessions: &[SessionRow], lengths: usize, id: u8) -> Stret
 }
 
 // The store that a fragment of that total goes into.
-fn store_for(s: ClientSession, total: u16, parts: &[u8], lengths: &mut [u32]) -> StoreMade
+#[tactic(auto, unfolding(crate::specs::Fragments::store_for, crate::specs::Fragments::lengths_for))]
+fn store_for(
+    s: ClientSession,
+    total: u16,
+    parts: &[u8],
+    lengths: &mut [u32],
+) -> Result<ReassemblyBuffer, Refusal>
     ensures { (result ≡ store_for s total parts.now lengths.old)
         × (lengths.new ≡ lengths_for s total parts.now lengths.old) }
 {
     if s.total == total as u64 {
         if 64 < s.received {
-            return StoreMade::Refused(Refusal::OverLimit);
+            return Err(Refusal::OverLimit);
         }
-        return StoreMade::Store(ReassemblyBuffer {
+        return Ok(ReassemblyBuffer {
             total_fragments: total,
             received_count: s.received as u16,
             width: 512,
@@ -97,42 +88,20 @@ fn assemble_if(
     lengths: &[u32],
     rebuilt: &mut [u8],
 ) -> Gathered
-    ensures { (result ≡ gathered_by (Inserted.Held b all) parts.now lengths.now rebuilt.old)
-        × (rebuilt.new ≡ rebuilt_by (Inserted.Held b all) parts.now lengths.now rebuilt.old) }
+    ensures { (result ≡ gathered_by (Ok (b, all)) parts.now lengths.now rebuilt.old)
+        × (rebuilt.new ≡ rebuilt_by (Ok (b, all)) parts.now lengths.now rebuilt.old) }
 {
     if !all {
         return Gathered::Held(b);
     }
     match b.assemble(parts, lengths, rebuilt) {
-        Written::Bytes(n) => Gathered::Whole(n),
-        Written::Refused(_) => Gathered::Held(b),
-    }
-}
-
-// A fragment that is put into a store, over the session's own part of it.
-fn insert_in(
-    made: StoreMade,
-    parts: &mut [u8],
-    lengths: &mut [u32],
-    rebuilt: &mut [u8],
-    nr: u16,
-    body: &[u8],
-) -> Gathered
-    ensures { (result ≡ gathered_with made parts.old lengths.old rebuilt.old nr body.now)
-        × (parts.new ≡ parts_with made parts.old lengths.old nr body.now)
-        × (lengths.new ≡ lengths_with made parts.old lengths.old nr body.now)
-        × (rebuilt.new ≡ rebuilt_with made parts.old lengths.old rebuilt.old nr body.now) }
-{
-    match made {
-        StoreMade::Refused(_) => Gathered::Nothing,
-        StoreMade::Store(b) => match b.insert(parts, lengths, nr, body) {
-            Inserted::Held(after, all) => assemble_if(all, after, parts, lengths, rebuilt),
-            Inserted::Refused(_) => Gathered::Nothing,
-        },
+        Ok(n) => Gathered::Whole(n),
+        Err(_) => Gathered::Held(b),
     }
 }
 
 // A fragment that is allowed, over the session's own part of the stores.
+#[tactic(auto, unfolding(crate::specs::Fragments::gathered_in, crate::specs::Fragments::parts_after, crate::specs::Fragments::lengths_after, crate::specs::Fragments::rebuilt_after))]
 fn gather_in(
     s: ClientSession,
     parts: &mut [u8],
@@ -147,23 +116,13 @@ fn gather_in(
         × (lengths.new ≡ lengths_after s parts.old lengths.old nr total body.now)
         × (rebuilt.new ≡ rebuilt_after s parts.old lengths.old rebuilt.old nr total body.now) }
 {
-    let made = store_for(s, total, parts, lengths);
-    insert_in(made, parts, lengths, rebuilt, nr, body)
-}
-
-fn stored(s: ClientSession, total: u64, received: u64) -> ClientSession
-    ensures { result ≡ stored_session s total received }
-{
-    ClientSession {
-        live: s.live,
-        client_key: s.client_key,
-        last_activity: s.last_activity,
-        objects: s.objects,
-        streams: s.streams,
-        slot: s.slot,
-        total,
-        received,
-    }
+    let Ok(b) = store_for(s, total, parts, lengths) else {
+        return Gathered::Nothing;
+    };
+    let Ok((after, all)) = b.insert(parts, lengths, nr, body) else {
+        return Gathered::Nothing;
+    };
+    assemble_if(all, after, parts, lengths, rebuilt)
 }
 
 // The session with its store: emptied where its last missing fragment came.
@@ -172,8 +131,16 @@ fn session_with(s: ClientSession, g: Gathered) -> ClientSession
 {
     match g {
         Gathered::Nothing => s,
-        Gathered::Held(b) => stored(s, b.total_fragments as u64, b.received_count as u64),
-        Gathered::Whole(_) => stored(s, 0, 0),
+        Gathered::Held(b) => ClientSession {
+            total: b.total_fragments as u64,
+            received: b.received_count as u64,
+            ..s
+        },
+        Gathered::Whole(_) => ClientSession {
+            total: 0,
+            received: 0,
+            ..s
+        },
     }
 }
 
@@ -181,15 +148,12 @@ fn session_with(s: ClientSession, g: Gathered) -> ClientSession
 fn is_taken(sessions: &[SessionRow], id: u8, nr: u16, total: u16, len: usize) -> bool
     ensures { result ≡ takes sessions.now id nr total len }
 {
-    match live_at(sessions, id) {
-        Named::Live => is_allowed(nr, total, len),
-        Named::NotLive => false,
-        Named::Refused(_) => false,
-    }
+    matches!(live_at(sessions, id), Ok(true)) && is_allowed(nr, total, len)
 }
 
 // A fragment of a live session: kept in its store, in place of one of its number, and the whole assembled where it is the
 // last one missing.
+#[tactic(auto, unfolding(crate::specs::Fragments::gathered, crate::specs::Fragments::gathered_rows, crate::specs::Fragments::gathered_parts, crate::specs::Fragments::gathered_lengths, crate::specs::Fragments::gathered_rebuilt, crate::specs::Sending::buffer_in, crate::specs::Sending::with_buffer))]
 pub fn keep_fragment(
     sessions: &mut [SessionRow],
     parts: &mut [u8],
@@ -212,20 +176,15 @@ pub fn keep_fragment(
     let s = session_at(sessions, id);
     let a = parts_stretch(sessions, parts.len(), id);
     let b = lengths_stretch(sessions, lengths.len(), id);
-    let x = a.start;
-    let y = a.end;
-    let z = b.start;
-    let w = b.end;
     let g = gather_in(
         s,
-        &mut parts[x..y],
-        &mut lengths[z..w],
+        &mut parts[a.start..a.end],
+        &mut lengths[b.start..b.end],
         rebuilt,
         nr,
         total,
         body,
     );
-    let after = session_with(s, g);
-    keep_session(sessions, id, after);
+    keep_session(sessions, id, session_with(s, g));
     g
 }

@@ -9,11 +9,12 @@ use crate::need::HELD;
 use crate::session_streams::{StreamPlace, find_stream};
 use crate::stream_rows::{StreamRow, first_stream, keep_stream, stream_at};
 use crate::table::{SessionRow, session_at};
-use streams::sent::{Recorded, Slot};
+use codec::refusals::Refusal;
+use streams::sent::Recorded;
 use streams::state::BUFFER_BYTES;
 
 // A part of the store of held messages.
-#[derive(Clone, Copy)]
+#[derive(Clone, Copy, Debug, PartialEq, Eq)]
 pub struct Stretch {
     pub start: usize,
     pub end: usize,
@@ -24,13 +25,10 @@ fn buffer_place(slot: u64, k: usize, held: usize) -> Stretch
     requires { k ≤ 8 }
     ensures { (result ≡ stretch_of slot k held) × (result.start ≤ result.end) × (result.end ≤ held) × (result.end - result.start ≤ 16384) }
 {
-    if k == 0 {
+    if k == 0 || 255 < slot {
         return Stretch { start: 0, end: 0 };
     }
-    if 255 < slot {
-        return Stretch { start: 0, end: 0 };
-    }
-    let end = HELD * (slot as usize) + BUFFER_BYTES * k;
+    let end = HELD * slot as usize + BUFFER_BYTES * k;
     if held < end {
         return Stretch { start: 0, end: 0 };
     }
@@ -41,6 +39,7 @@ fn buffer_place(slot: u64, k: usize, held: usize) -> Stretch
 }
 
 // Where the buffer of an open stream lies in a store of `held` bytes; empty where it has none.
+#[tactic(auto, unfolding(crate::specs::Sending::buffer_stretch))]
 pub fn buffer_stretch(
     sessions: &[SessionRow],
     streams: &[StreamRow],
@@ -50,34 +49,24 @@ pub fn buffer_stretch(
 ) -> Stretch
     ensures { (result ≡ buffer_stretch sessions.now streams.now held id n) × (result.start ≤ result.end) × (result.end ≤ held) × (result.end - result.start ≤ 16384) }
 {
-    let p = find_stream(sessions, streams, id, n);
-    match p {
-        StreamPlace::Have(k) => {
-            let slot = session_at(sessions, id).slot;
-            buffer_place(slot, k, held)
-        }
-        StreamPlace::Add(_) => Stretch { start: 0, end: 0 },
-        StreamPlace::Full => Stretch { start: 0, end: 0 },
-        StreamPlace::NotLive => Stretch { start: 0, end: 0 },
-        StreamPlace::Refused(_) => Stretch { start: 0, end: 0 },
-    }
+    let Ok(StreamPlace::Have(k)) = find_stream(sessions, streams, id, n) else {
+        return Stretch { start: 0, end: 0 };
+    };
+    buffer_place(session_at(sessions, id).slot, k, held)
 }
 
 // The number that the next DATA reply of an open stream takes; 0 where the stream isn't open, as in a new one.
 pub fn next_sequence(sessions: &[SessionRow], streams: &[StreamRow], id: u8, n: u8) -> u16
     ensures { result ≡ (read_as (stream_place sessions.now streams.now id n) streams.now id).state.next_send_seq }
 {
-    let p = find_stream(sessions, streams, id, n);
-    match p {
-        StreamPlace::Have(k) => stream_at(streams, first_stream(id) + k).next_send_seq,
-        StreamPlace::Add(_) => 0,
-        StreamPlace::Full => 0,
-        StreamPlace::NotLive => 0,
-        StreamPlace::Refused(_) => 0,
-    }
+    let Ok(StreamPlace::Have(k)) = find_stream(sessions, streams, id, n) else {
+        return 0;
+    };
+    stream_at(streams, first_stream(id) + k).next_send_seq
 }
 
 // What `send_data` answers for a message of `len` bytes, where the store has `held` bytes.
+#[tactic(auto, unfolding(crate::specs::Sending::data_slot))]
 pub fn data_slot(
     sessions: &[SessionRow],
     streams: &[StreamRow],
@@ -85,39 +74,25 @@ pub fn data_slot(
     id: u8,
     n: u8,
     len: usize,
-) -> Slot
+) -> Result<Option<usize>, Refusal>
     ensures { result ≡ data_slot sessions.now streams.now held id n len }
 {
-    let p = find_stream(sessions, streams, id, n);
-    match p {
-        StreamPlace::Have(k) => {
-            let slot = session_at(sessions, id).slot;
-            let b = buffer_place(slot, k, held);
-            let s = stream_at(streams, first_stream(id) + k);
-            s.slot_for(s.next_send_seq, len, b.end - b.start)
-        }
-        StreamPlace::Add(_) => Slot::Nowhere,
-        StreamPlace::Full => Slot::Nowhere,
-        StreamPlace::NotLive => Slot::Nowhere,
-        StreamPlace::Refused(x) => Slot::Refused(x),
-    }
+    let StreamPlace::Have(k) = find_stream(sessions, streams, id, n)? else {
+        return Ok(None);
+    };
+    let b = buffer_place(session_at(sessions, id).slot, k, held);
+    let s = stream_at(streams, first_stream(id) + k);
+    s.slot_for(s.next_send_seq, len, b.end - b.start)
 }
 
 // A stream that recorded a message is kept with its next number gone on by one.
-fn keep_sent(streams: &mut [StreamRow], at: usize, r: Recorded) -> Slot
+fn keep_sent(streams: &mut [StreamRow], at: usize, r: Recorded) -> Result<Option<usize>, Refusal>
     ensures { (result ≡ r.slot) × (streams.new ≡ kept_sent streams.old at r) }
 {
-    let slot = r.slot;
-    match slot {
-        Slot::At(_) => {
-            let s = r.state;
-            let next = s.alloc_send_seq();
-            keep_stream(streams, at, next.state);
-        }
-        Slot::Nowhere => {}
-        Slot::Refused(_) => {}
+    if let Ok(Some(_)) = r.slot {
+        keep_stream(streams, at, r.state.alloc_send_seq().state);
     }
-    slot
+    r.slot
 }
 
 // The message is recorded in the row `at`, with the buffer of place `k` of that slot.
@@ -128,22 +103,21 @@ fn send_at(
     slot: u64,
     k: usize,
     message: &[u8],
-) -> Slot
+) -> Result<Option<usize>, Refusal>
     requires { k ≤ 8 }
     ensures { (result ≡ next_slot (stream_at streams.old at) (length message.now) (room_of (stretch_of slot k (length held.old))))
         × (streams.new ≡ sent_rows streams.old at (length message.now) (room_of (stretch_of slot k (length held.old))))
         × (held.new ≡ sent_bytes held.old (stretch_of slot k (length held.old)) (stream_at streams.old at) message.now) }
 {
     let b = buffer_place(slot, k, held.len());
-    let start = b.start;
-    let end = b.end;
     let s = stream_at(streams, at);
-    let r = s.record_sent(s.next_send_seq, message, &mut held[start..end]);
+    let r = s.record_sent(s.next_send_seq, message, &mut held[b.start..b.end]);
     keep_sent(streams, at, r)
 }
 
 // Holds a DATA reply of an open stream under the stream's next number, which is then gone on by one; on stream 0, and
 // where the answer is a refusal, nothing changes.
+#[tactic(auto, unfolding(crate::specs::Sending::data_slot, crate::specs::Sending::sent_streams, crate::specs::Sending::sent_held))]
 pub fn send_data(
     sessions: &[SessionRow],
     streams: &mut [StreamRow],
@@ -151,25 +125,20 @@ pub fn send_data(
     id: u8,
     n: u8,
     message: &[u8],
-) -> Slot
+) -> Result<Option<usize>, Refusal>
     ensures { (result ≡ data_slot sessions.now streams.old (length held.old) id n (length message.now))
         × (streams.new ≡ sent_streams sessions.now streams.old held.old id n message.now)
         × (held.new ≡ sent_held sessions.now streams.old held.old id n message.now) }
 {
-    let p = find_stream(sessions, streams, id, n);
-    match p {
-        StreamPlace::Have(k) => {
-            let slot = session_at(sessions, id).slot;
-            send_at(streams, held, first_stream(id) + k, slot, k, message)
-        }
-        StreamPlace::Add(_) => Slot::Nowhere,
-        StreamPlace::Full => Slot::Nowhere,
-        StreamPlace::NotLive => Slot::Nowhere,
-        StreamPlace::Refused(x) => Slot::Refused(x),
-    }
+    let StreamPlace::Have(k) = find_stream(sessions, streams, id, n)? else {
+        return Ok(None);
+    };
+    let slot = session_at(sessions, id).slot;
+    send_at(streams, held, first_stream(id) + k, slot, k, message)
 }
 
 // The message that an open stream holds under `seq`, as that part of the store, or an empty part.
+#[tactic(auto, unfolding(crate::specs::Sending::message_of, crate::specs::Sending::buffer_in))]
 pub fn message<'a>(
     sessions: &[SessionRow],
     streams: &[StreamRow],
@@ -180,19 +149,10 @@ pub fn message<'a>(
 ) -> &'a [u8]
     ensures { result.now ≡ message_of sessions.now streams.now held.now id n seq }
 {
-    let p = find_stream(sessions, streams, id, n);
-    match p {
-        StreamPlace::Have(k) => {
-            let slot = session_at(sessions, id).slot;
-            let b = buffer_place(slot, k, held.len());
-            let start = b.start;
-            let end = b.end;
-            let s = stream_at(streams, first_stream(id) + k);
-            s.held_message(seq, &held[start..end])
-        }
-        StreamPlace::Add(_) => &held[0..0],
-        StreamPlace::Full => &held[0..0],
-        StreamPlace::NotLive => &held[0..0],
-        StreamPlace::Refused(_) => &held[0..0],
-    }
+    let Ok(StreamPlace::Have(k)) = find_stream(sessions, streams, id, n) else {
+        return &held[0..0];
+    };
+    let b = buffer_place(session_at(sessions, id).slot, k, held.len());
+    let s = stream_at(streams, first_stream(id) + k);
+    s.held_message(seq, &held[b.start..b.end])
 }

@@ -11,52 +11,22 @@ use crate::table::SessionRow;
 use codec::refusals::Refusal;
 use codec::submessages::ObjectNumber;
 
-// The stores are cleared, and `next` is the id from which the first free one is looked for.
-#[derive(Clone, Copy)]
-pub enum SetUp {
-    Ready { next: u8 },
-    Refused(Refusal),
-}
-
-// The first `n` ids are free, 0 included: row 0 never names a session.
-fn clear_sessions(sessions: &mut [SessionRow], n: usize)
-    requires { n ≤ length sessions.old }
-    ensures { sessions.new ≡ cleared n (row_of ended_session) sessions.old }
+// The first `n` records of a store become `nothing`; what it has beyond them stays.
+#[tactic(auto, unfolding(crate::specs::Setup::cleared))]
+fn clear<T: Copy>(store: &mut [T], n: usize, nothing: T)
+    requires { n ≤ length store.old }
+    ensures { store.new ≡ cleared n nothing store.old }
 {
-    let mut id: usize = 0;
-    while id < n {
-        sessions[id] = [0u64; 8];
-        id += 1;
+    for record in &mut store[..n] {
+        *record = nothing;
     }
 }
 
-fn clear_streams(streams: &mut [StreamRow], n: usize)
-    requires { n ≤ length streams.old }
-    ensures { streams.new ≡ cleared n no_stream streams.old }
-{
-    let mut i: usize = 0;
-    while i < n {
-        streams[i] = [0u16; 35];
-        i += 1;
-    }
-}
-
-// A record of zeros is an implicit object of number 0 and of no kind.
-fn clear_objects(objects: &mut [Object], n: usize)
-    requires { n ≤ length objects.old }
-    ensures { objects.new ≡ cleared n blank objects.old }
-{
-    let number = ObjectNumber(0);
-    let o = Object::implicit(number, 0, 0);
-    let mut i = 0;
-    while i < n {
-        objects[i] = o;
-        i = i + 1;
-    }
-}
-
-// Clears every table within its need, whatever stood there; what a table has beyond it stays. Of the held messages and the fragments only the
-// number of bytes is asked: what no session holds is never read. A refusal changes nothing.
+// Clears every table within its need, whatever stood there; what a table has beyond it stays. A row of zeros is a free id, row 0
+// included, which never names a session, or no stream; a record of zeros is an implicit object of number 0 and of no kind. Of
+// the held messages and the fragments only the number of bytes is asked: what no session holds is never read. A refusal
+// changes nothing.
+#[tactic(auto, unfolding(crate::specs::Setup::set_up_of, crate::specs::Need::stores_fit))]
 pub fn set_up(
     sessions: &mut [SessionRow],
     streams: &mut [StreamRow],
@@ -66,35 +36,32 @@ pub fn set_up(
     lengths: usize,
     rebuilt: usize,
     max_clients: usize,
-) -> SetUp
+) -> Result<u8, Refusal>
     ensures { (result ≡ set_up_of (length sessions.old) (length streams.old) (length objects.old) held parts lengths rebuilt max_clients)
         × (sessions.new ≡ leaves result (empty_sessions sessions.old) sessions.old)
         × (streams.new ≡ leaves result (empty_streams streams.old) streams.old)
         × (objects.new ≡ leaves result (empty_objects objects.old) objects.old) }
 {
-    let session_rows = sessions.len();
-    let stream_rows = streams.len();
-    let records = objects.len();
-    let ok = stores_fit(
-        session_rows,
-        stream_rows,
-        records,
+    let fits = stores_fit(
+        sessions.len(),
+        streams.len(),
+        objects.len(),
         held,
         parts,
         lengths,
         rebuilt,
         max_clients,
     );
-    if ok {
-        let need = stores_need(max_clients);
-        let ids = need.sessions;
-        clear_sessions(sessions, ids);
-        let rows = need.streams;
-        clear_streams(streams, rows);
-        let all = need.objects;
-        clear_objects(objects, all);
-        SetUp::Ready { next: 1 }
-    } else {
-        SetUp::Refused(Refusal::OverLimit)
+    if !fits {
+        return Err(Refusal::OverLimit);
     }
+    let need = stores_need(max_clients);
+    clear(sessions, need.sessions, [0; 8]);
+    clear(streams, need.streams, [0; 35]);
+    clear(
+        objects,
+        need.objects,
+        Object::implicit(ObjectNumber(0), 0, 0),
+    );
+    Ok(1)
 }

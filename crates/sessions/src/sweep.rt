@@ -6,32 +6,27 @@ ghost use Rattle.sessions.specs.Sweep.{goes, expired_from, expired_ids, swept_at
 use crate::need::SESSIONS;
 use crate::opening::marks;
 use crate::table::{ClientSession, SessionRow, keep_session, session_at};
-use codec::bytes::Written;
 use codec::refusals::Refusal;
 
 // Whether a live session has expired.
+#[tactic(auto, unfolding(crate::specs::Sweep::goes))]
 fn goes(sessions: &[SessionRow], id: u8, time: u64, timeout_ms: u64) -> bool
     ensures { result ≡ goes sessions.now time timeout_ms id }
 {
     let s = session_at(sessions, id);
-    if s.live == 0 {
-        return false;
-    }
-    s.is_expired(time, timeout_ms)
+    s.live != 0 && s.is_expired(time, timeout_ms)
 }
 
 // The same as a number, to be summed.
 fn one(sessions: &[SessionRow], id: u8, time: u64, timeout_ms: u64) -> usize
     ensures { (result ≡ cond (goes sessions.now time timeout_ms id) 1 0) × (result ≤ 1) }
 {
-    if goes(sessions, id, time, timeout_ms) {
-        1
-    } else {
-        0
-    }
+    goes(sessions, id, time, timeout_ms) as usize
 }
 
 // How many of five go. Most ids are free, so that one test often passes over five.
+// A chain over the five takes a third more instructions in a full table: 4,800 a sweep beside 3,500.
+#[tactic(auto, unfolding(crate::specs::Sweep::expired_from))]
 fn count_five(sessions: &[SessionRow], id: u8, time: u64, timeout_ms: u64) -> usize
     requires { id ≤ 251 }
     ensures { (result ≡ length (expired_from (goes sessions.now time timeout_ms) id 5)) × (result ≤ 5) }
@@ -48,17 +43,10 @@ fn count_five(sessions: &[SessionRow], id: u8, time: u64, timeout_ms: u64) -> us
 }
 
 // How many sessions go; none of them has an id below `first`.
-#[derive(Clone, Copy)]
+#[derive(Clone, Copy, Debug, PartialEq, Eq)]
 struct Gone {
     n: usize,
     first: usize,
-}
-
-// With five more ids in front: where none of them goes, the first stays where it was.
-fn first_of(none: bool, id: usize, first: usize) -> usize
-    ensures { result ≡ cond none first id }
-{
-    if none { first } else { id }
 }
 
 // The ids are 1 to 255: 51 times five, the last ones first.
@@ -66,15 +54,15 @@ fn count_expired(sessions: &[SessionRow], time: u64, timeout_ms: u64) -> Gone
     ensures { (result.n ≡ length (expired_ids sessions.now time timeout_ms))
         × (1 ≤ result.first) × (result.first ≤ 256) × (length (expired_from (goes sessions.now time timeout_ms) 1 (result.first - 1)) ≡ 0) }
 {
-    let mut k: u8 = 51;
-    let mut n: usize = 0;
-    let mut first: usize = SESSIONS;
-    while 0 < k {
-        k -= 1;
+    let mut n = 0;
+    let mut first = SESSIONS;
+    for k in (0..51u8).rev() {
         let id = 5 * k + 1;
         let c = count_five(sessions, id, time, timeout_ms);
         n += c;
-        first = first_of(c == 0, id as usize, first);
+        if c != 0 {
+            first = id as usize;
+        }
     }
     Gone { n, first }
 }
@@ -89,6 +77,7 @@ fn list_id(out: &mut [u8], at: usize, id: u8)
 }
 
 // One id: if its session goes, it is listed and ended.
+#[tactic(auto, unfolding(crate::specs::Sweep::swept_at))]
 fn sweep_one(
     sessions: &mut [SessionRow],
     out: &mut [u8],
@@ -103,8 +92,7 @@ fn sweep_one(
         × (out.new ≡ cond (goes sessions.old time timeout_ms id) (set out.old at id) out.old) }
 {
     if goes(sessions, id, time, timeout_ms) {
-        let s = ClientSession::ended();
-        keep_session(sessions, id, s);
+        keep_session(sessions, id, ClientSession::ended());
         list_id(out, at, id);
         at + 1
     } else {
@@ -112,46 +100,41 @@ fn sweep_one(
     }
 }
 
-// `n` sessions go, none of them with an id below `first`; once the last of them has ended, no further id is looked at.
-fn sweep(
-    sessions: &mut [SessionRow],
-    out: &mut [u8],
-    time: u64,
-    timeout_ms: u64,
-    n: usize,
-    first: usize,
-)
-    requires { (n ≡ length (expired_ids sessions.old time timeout_ms)) × (n ≤ length out.old)
-        × (1 ≤ first) × (first ≤ 256) × (length (expired_from (goes sessions.old time timeout_ms) 1 (first - 1)) ≡ 0) }
+// Once the last of those that go has ended, no further id is looked at.
+fn sweep(sessions: &mut [SessionRow], out: &mut [u8], time: u64, timeout_ms: u64, gone: Gone)
+    requires { (gone.n ≡ length (expired_ids sessions.old time timeout_ms)) × (gone.n ≤ length out.old)
+        × (1 ≤ gone.first) × (gone.first ≤ 256) × (length (expired_from (goes sessions.old time timeout_ms) 1 (gone.first - 1)) ≡ 0) }
     ensures { (sessions.new ≡ swept_rows sessions.old time timeout_ms)
         × (out.new ≡ put_at out.old 0 (expired_ids sessions.old time timeout_ms)) }
 {
-    let mut i = first;
-    let mut at: usize = 0;
-    while at < n {
+    let mut at = 0;
+    for i in gone.first..SESSIONS {
+        if at == gone.n {
+            break;
+        }
         at = sweep_one(sessions, out, i as u8, at, time, timeout_ms);
-        i += 1;
     }
 }
 
 // Ends every expired session and lists their ids, ascending, a byte each.
+#[tactic(auto, unfolding(crate::specs::Sweep::evicted_of, crate::specs::Sweep::evicted_out, crate::specs::Sweep::evicted_rows, codec::specs::Bytes::put_of, codec::specs::Bytes::put_bytes))]
 pub fn evict_expired(
     sessions: &mut [SessionRow],
     time: u64,
     timeout_ms: u64,
     out: &mut [u8],
-) -> Written
+) -> Result<usize, Refusal>
     ensures { (result ≡ evicted_of sessions.old time timeout_ms out.old)
         × (sessions.new ≡ evicted_rows sessions.old time timeout_ms out.old)
         × (out.new ≡ evicted_out sessions.old time timeout_ms out.old) }
 {
     if sessions.len() < SESSIONS {
-        return Written::Refused(Refusal::OverLimit);
+        return Err(Refusal::OverLimit);
     }
     let gone = count_expired(sessions, time, timeout_ms);
     if out.len() < gone.n {
-        return Written::Refused(Refusal::OutputTooShort);
+        return Err(Refusal::OutputTooShort);
     }
-    sweep(sessions, out, time, timeout_ms, gone.n, gone.first);
-    Written::Bytes(gone.n)
+    sweep(sessions, out, time, timeout_ms, gone);
+    Ok(gone.n)
 }

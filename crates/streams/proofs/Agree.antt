@@ -1,6 +1,6 @@
 -- Two states that agree at their sixteen places hold the same messages, and are sound together.
+use Rattle.std.specs.Prelude.{Some}
 use Rattle.std.proofs.Common.{◌≡◌, ℕ, ◌-◌, ◌<◌, ◌≤◌, Bool, true, false, ltb, length, get_or, sym, refl, ap, ◌∙◌, arith, ltb-false, ltb-true}
-use mathlib.Core.Option.{some}
 use lib.ListN.{get_or-eq_default}
 use Rattle.streams.specs.declared.state.StreamState.{StreamState}
 use Rattle.streams.specs.Places.{holds_at, place_of, is_held}
@@ -30,7 +30,7 @@ module _ (s t : StreamState) (same : Agree t s) where
         by : (b : Bool) → is_held s n ≡ b → held_by read t n ≡ held_by read s n
         by true e =
             let l = held_low s n e in
-            read_at t n read q (place_same n) l ∙ ap (λ (len : ℕ). some (read q (len - 1))) (same q l).1 ∙ sym (read_at s n read q refl l)
+            read_at t n read q (place_same n) l ∙ ap (λ (len : ℕ). Some (read q (len - 1))) (same q l).1 ∙ sym (read_at s n read q refl l)
         by false e = read_none t n read (place_same n ∙ free_place s n e) ∙ sym (read_none s n read (free_place s n e))
 
   -- a state has sixteen places, and past them no length

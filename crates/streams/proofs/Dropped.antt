@@ -1,6 +1,6 @@
 -- What an ACKNACK leaves held: exactly the numbers that don't come before its first one.
+use Rattle.std.specs.Prelude.{None, Some}
 use Rattle.std.proofs.Common.{◌≡◌, ℕ, zero, suc, ◌+◌, ◌-◌, ◌<◌, Bool, true, false, cond, eqb, ltb, length, get_or, sym, refl, ap, ◌∙◌, le_of_suc-le-suc, not-suc-le-zero, add-zero, arith, eqb-true}
-use mathlib.Core.Option.{none, some}
 use borrow.Author.Tests.{eqb-false}
 use Rattle.streams.specs.declared.state.StreamState.{StreamState}
 use Rattle.streams.specs.Sequence.{seq_lt}
@@ -80,14 +80,14 @@ module _ (s : StreamState) (first : ℕ) where
         by false e = rw (place_kept e)
 
     module _ {A : Type 0} (read : ℕ → ℕ → A) where
-      pub acknowledged : held_by read (drop_before s first) m ≡ cond (seq_lt m first) none (held_by read s m)
+      pub acknowledged : held_by read (drop_before s first) m ≡ cond (seq_lt m first) None (held_by read s m)
       acknowledged = by (seq_lt m first) (is_held s m) refl refl
         where
-          by : (t u : Bool) → seq_lt m first ≡ t → is_held s m ≡ u → held_by read (drop_before s first) m ≡ cond t none (held_by read s m)
+          by : (t u : Bool) → seq_lt m first ≡ t → is_held s m ≡ u → held_by read (drop_before s first) m ≡ cond t None (held_by read s m)
           by true u e k = read_none (drop_before s first) m read (place_dropped e)
           by false false e k = read_none (drop_before s first) m read (place_kept e ∙ free_place s m k) ∙ sym (read_none s m read (free_place s m k))
           by false true e k =
               let l = held_low s m k in
               read_at (drop_before s first) m read (place_of s m) (place_kept e) l
-              ∙ ap (λ (len : ℕ). some (read (place_of s m) (len - 1))) (length_kept e l)
+              ∙ ap (λ (len : ℕ). Some (read (place_of s m) (len - 1))) (length_kept e l)
               ∙ sym (read_at s m read (place_of s m) refl l)

@@ -1,11 +1,7 @@
 -- A held message reads back byte for byte until it is replaced or acknowledged, whatever else is called.
 use Rattle.std.proofs.Common.{◌≡◌, ℕ, ◌-◌, ◌*◌, ◌≤◌, Bool, true, false, eqb, List, [], ◌∷◌, length, get_or, sym, refl, ap, ◌∙◌, arith, le-ltb, eq-eqb, ne_eqb}
-use mathlib.Core.Option.{none, some}
 use borrow.Author.Tests.{eqb-false, lt-leb, not-true}
 use Rattle.streams.specs.declared.state.StreamState.{StreamState}
-use Rattle.streams.specs.declared.sent.Slot.{Slot}
-use Rattle.streams.specs.declared.sent.Slot.TheVariants as slot
-use Rattle.streams.specs.declared.sent.Held.TheVariants as held
 use Rattle.streams.specs.Sequence.{seq_lt}
 use Rattle.streams.specs.Places.{place_of, is_held}
 use Rattle.streams.specs.Sent.{need, slot_for, record_at, record_of, bytes_at, record_bytes, held_of, bytes_in, held_bytes}
@@ -18,29 +14,31 @@ use Rattle.streams.proofs.Dropped.{acknowledged}
 use Rattle.streams.proofs.View.{recorded}
 use Rattle.streams.proofs.Soundness.{alloc_sound, receive_sound, drop_sound, record_sound_lem}
 use Rattle.streams.proofs.Kept.{alloc_kept, receive_held}
+use Rattle.std.specs.Prelude.{Err, None, Ok, Option, Result, Some}
+use Rattle.codec.specs.declared.refusals.Refusal.{Refusal}
 
 -- one message is sent, and what `record_sent` answers
 module _ (x : Stream) (d : Sound x.state) (m : ℕ) (message : List ℕ) where
-  sent_sound : (a : Slot) → slot_for x.state m (length message) (length x.buffer) ≡ a → Sound (record_at a x.state m (length message))
+  sent_sound : (a : Result (Option ℕ) Refusal) → slot_for x.state m (length message) (length x.buffer) ≡ a → Sound (record_at a x.state m (length message))
   unfolding record_at
-  sent_sound (slot.At p) e = let k = slot_at x.state m (length message) (length x.buffer) p e in record_sound_lem x.state d m (length message) p k.place k.low k.short
-  sent_sound slot.Nowhere e = d
-  sent_sound (slot.Refused r) e = d
+  sent_sound (Ok (Some p)) e = let k = slot_at x.state m (length message) (length x.buffer) p e in record_sound_lem x.state d m (length message) p k.place k.low k.short
+  sent_sound (Ok None) e = d
+  sent_sound (Err r) e = d
 
-  sent_room : (a : Slot) → slot_for x.state m (length message) (length x.buffer) ≡ a → length (bytes_at a message x.buffer) ≡ length x.buffer
+  sent_room : (a : Result (Option ℕ) Refusal) → slot_for x.state m (length message) (length x.buffer) ≡ a → length (bytes_at a message x.buffer) ≡ length x.buffer
   unfolding bytes_at
-  sent_room (slot.At p) e =
+  sent_room (Ok (Some p)) e =
       let k = slot_at x.state m (length message) (length x.buffer) p e in
       length_put x.buffer (p * 1024) message (omega (arith, k.low, k.short, k.room_for))
-  sent_room slot.Nowhere e = refl
-  sent_room (slot.Refused r) e = refl
+  sent_room (Ok None) e = refl
+  sent_room (Err r) e = refl
 
-  sent_others : (n : ℕ) → (n ≡ m → ⊥) → (a : Slot) → slot_for x.state m (length message) (length x.buffer) ≡ a
+  sent_others : (n : ℕ) → (n ≡ m → ⊥) → (a : Result (Option ℕ) Refusal) → slot_for x.state m (length message) (length x.buffer) ≡ a
       → message_held (record_at a x.state m (length message)) (bytes_at a message x.buffer) n ≡ message_held x.state x.buffer n
   unfolding record_at bytes_at
-  sent_others n h (slot.At p) e = recorded x.state d m message x.buffer p e n ∙ rw (ne_eqb n m h)
-  sent_others n h slot.Nowhere e = refl
-  sent_others n h (slot.Refused r) e = refl
+  sent_others n h (Ok (Some p)) e = recorded x.state d m message x.buffer p e n ∙ rw (ne_eqb n m h)
+  sent_others n h (Ok None) e = refl
+  sent_others n h (Err r) e = refl
 
 -- one call
 module _ (x : Stream) (d : Sound x.state) where
@@ -67,8 +65,8 @@ module _ (x : Stream) (d : Sound x.state) where
   step_kept n (receive m) e = receive_held (bytes_in x.buffer) x.state m n
 
 -- a message that was just recorded is held
-just_recorded : (x : Stream) → Sound x.state → (n : ℕ) (message : List ℕ) (p : ℕ) → slot_for x.state n (length message) (length x.buffer) ≡ slot.At p
-    → message_held (after (send n message) x).state (after (send n message) x).buffer n ≡ some message
+just_recorded : (x : Stream) → Sound x.state → (n : ℕ) (message : List ℕ) (p : ℕ) → slot_for x.state n (length message) (length x.buffer) ≡ Ok (Some p)
+    → message_held (after (send n message) x).state (after (send n message) x).buffer n ≡ Some message
 unfolding after record_of record_at record_bytes bytes_at
 just_recorded x d n message p e = rw e (recorded x.state d n message x.buffer p e n ∙ rw (eq-eqb n n refl))
 
@@ -91,7 +89,7 @@ all_kept n (c ∷ cs) x d e = all_kept n cs (after c x) (step_sound x d c) e.1 �
 
 -- `held_message` hands back the message that is held, and `find_held` says so where none is
 module _ (s : StreamState) (d : Sound s) (buffer : List ℕ) (room : need ≤ length buffer) (n : ℕ) where
-  found : is_held s n ≡ true → held_of s n (length buffer) ≡ held.At (place_of s n) (get_or s.lengths (place_of s n) 0 - 1)
+  found : is_held s n ≡ true → held_of s n (length buffer) ≡ Ok (Some ((place_of s n), (get_or s.lengths (place_of s n) 0 - 1)))
   unfolding held_of
   found k =
       rw (
@@ -100,7 +98,7 @@ module _ (s : StreamState) (d : Sound s) (buffer : List ℕ) (room : need ≤ le
         le-ltb 1025 (get_or s.lengths (place_of s n) 0) (d.short (place_of s n)),
       )
 
-  pub reads_held : (bytes : List ℕ) → message_held s buffer n ≡ some bytes → held_bytes (held_of s n (length buffer)) buffer ≡ bytes
+  pub reads_held : (bytes : List ℕ) → message_held s buffer n ≡ Some bytes → held_bytes (held_of s n (length buffer)) buffer ≡ bytes
   unfolding held_bytes
   reads_held bytes e = by (is_held s n) refl
     where
@@ -108,16 +106,16 @@ module _ (s : StreamState) (d : Sound s) (buffer : List ℕ) (room : need ≤ le
       by true k = rw (found k) (let same = read_at s n (bytes_in buffer) (place_of s n) refl (held_low s n k) in cc)
       by false k = absurd (let no = read_none s n (bytes_in buffer) (free_place s n k) in let z : ◌≡◌ {A = ℕ} 0 1 = cc in omega arith)
 
-  pub reads_nothing : message_held s buffer n ≡ none → held_of s n (length buffer) ≡ held.Nothing
+  pub reads_nothing : message_held s buffer n ≡ None → held_of s n (length buffer) ≡ (Ok None)
   unfolding held_of
   reads_nothing e = by (is_held s n) refl
     where
-      by : (t : Bool) → is_held s n ≡ t → held_of s n (length buffer) ≡ held.Nothing
+      by : (t : Bool) → is_held s n ≡ t → held_of s n (length buffer) ≡ (Ok None)
       by true k = absurd (let same = read_at s n (bytes_in buffer) (place_of s n) refl (held_low s n k) in let z : ◌≡◌ {A = ℕ} 0 1 = cc in omega arith)
       by false k = rw (le-ltb (length buffer) need room, free_place s n k)
 
 -- a message that was recorded reads back after any calls that neither record its number anew nor acknowledge it
-pub reads_back : (x : Stream) → Sound x.state → (n : ℕ) (message : List ℕ) (p : ℕ) → slot_for x.state n (length message) (length x.buffer) ≡ slot.At p
+pub reads_back : (x : Stream) → Sound x.state → (n : ℕ) (message : List ℕ) (p : ℕ) → slot_for x.state n (length message) (length x.buffer) ≡ Ok (Some p)
     → (cs : List Call) → AllSpare n cs
     → let y = after_all cs (after (send n message) x) in held_bytes (held_of y.state n (length y.buffer)) y.buffer ≡ message
 reads_back x d n message p e cs spared =

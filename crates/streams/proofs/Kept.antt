@@ -1,8 +1,6 @@
 -- What is kept of a stream: each call makes document 01's operation of it, whatever stands in the free places.
 use Rattle.std.proofs.Common.{◌≡◌, ℕ, Bool, true, false, cond, eqb, List, length, refl, ap, ◌∙◌}
 use Rattle.streams.specs.declared.state.StreamState.{StreamState}
-use Rattle.streams.specs.declared.sent.Slot.{Slot}
-use Rattle.streams.specs.declared.sent.Slot.TheVariants as slot
 use Rattle.streams.specs.Sequence.{plus}
 use Rattle.streams.specs.State.{new_stream}
 use Rattle.streams.specs.Sent.{alloc_of, slot_for, with_message, record_at, record_of, bytes_at, record_bytes, bytes_in}
@@ -14,6 +12,8 @@ use Rattle.streams.proofs.Agree.{same_held}
 use Rattle.streams.proofs.Dropped.{acknowledged}
 use Rattle.streams.proofs.View.{recorded_by, recorded}
 use Rattle.streams.proofs.Soundness.{new_empty, receive_is}
+use Rattle.std.specs.Prelude.{Err, None, Ok, Option, Result, Some}
+use Rattle.codec.specs.declared.refusals.Refusal.{Refusal}
 
 -- what is expected has no say in what is sent and held
 pub receive_spares : {A : Type 0} (k : Kept A) (n : ℕ) → ((receive_in n k).next ≡ k.next) × ((m : ℕ) → (receive_in n k).held m ≡ k.held m)
@@ -80,22 +80,22 @@ module _ (s : StreamState) (sound : Sound s) (n : ℕ) where
   unfolding record_of record_bytes record_at bytes_at with_message
   record_kept message buffer = by (slot_for s n (length message) (length buffer)) refl
     where
-      by : (a : Slot) → slot_for s n (length message) (length buffer) ≡ a
+      by : (a : Result (Option ℕ) Refusal) → slot_for s n (length message) (length buffer) ≡ a
           → kept_of (bytes_in (bytes_at a message buffer)) (record_at a s n (length message)) ≡ record_in a n message (kept_of (bytes_in buffer) s)
-      by (slot.At p) e = λ i. record { number = s.stream_id; next = s.next_send_seq; expected = s.next_recv_seq; held = λ m. recorded s sound n message buffer p e m i }
-      by slot.Nowhere e = refl
-      by (slot.Refused r) e = refl
+      by (Ok (Some p)) e = λ i. record { number = s.stream_id; next = s.next_send_seq; expected = s.next_recv_seq; held = λ m. recorded s sound n message buffer p e m i }
+      by (Ok None) e = refl
+      by (Err r) e = refl
 
   pub record_kept_length : (len room : ℕ) → kept_of length_in (record_of s n len room).state ≡ record_in (slot_for s n len room) n len (kept_of length_in s)
   unfolding record_of record_at with_message
   record_kept_length len room = by (slot_for s n len room) refl
     where
-      by : (a : Slot) → slot_for s n len room ≡ a → kept_of length_in (record_at a s n len) ≡ record_in a n len (kept_of length_in s)
-      by (slot.At p) e = λ i. record {
+      by : (a : Result (Option ℕ) Refusal) → slot_for s n len room ≡ a → kept_of length_in (record_at a s n len) ≡ record_in a n len (kept_of length_in s)
+      by (Ok (Some p)) e = λ i. record {
         number = s.stream_id;
         next = s.next_send_seq;
         expected = s.next_recv_seq;
         held = λ m. recorded_by length_in length_in len s sound n len room p e refl (λ q k h small. refl) m i;
       }
-      by slot.Nowhere e = refl
-      by (slot.Refused r) e = refl
+      by (Ok None) e = refl
+      by (Err r) e = refl

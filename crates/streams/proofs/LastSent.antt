@@ -1,10 +1,10 @@
 -- What is held under a number is the message of the last DATA reply that took it; so is what an ACKNACK repeats.
+use Rattle.std.specs.Prelude.{Option, None, Some}
 use Rattle.std.proofs.Common.{◌≡◌, ℕ, zero, suc, ◌+◌, ◌<◌, ◌≤◌, Bool, true, false, cond, eqb, List, [], ◌∷◌, ◌++◌, length, sym, refl, ap, ◌∙◌, ⊎_elim, append-nil, eq-or-lt_of_le, arith, length-append, eq-eqb, ne_eqb, eqb-true}
 use mathlib.Core.List.Memᴰ
 use mathlib.Core.List.{Memᴰ}
-use mathlib.Core.Option.{Option, none, some}
 use borrow.Author.Tests.{eqb-false}
-use lib.ListN.{get_elem?}
+use Rattle.std.specs.List.{slice_get}
 use lib.Seq.{append_snoc}
 use Rattle.streams.specs.Sequence.{plus, seq_lt}
 use Rattle.streams.specs.Acknowledged.{bit_of}
@@ -15,19 +15,19 @@ use Rattle.streams.proofs.Kept.{receive_spares}
 -- ---- an element of a list, and of one with an element more
 
 module _ {A : Type 0} where
-  before_more : (l r : List A) (k : ℕ) (x : A) → get_elem? l k ≡ some x → get_elem? (l ++ r) k ≡ some x
+  before_more : (l r : List A) (k : ℕ) (x : A) → slice_get l k ≡ Some x → slice_get (l ++ r) k ≡ Some x
   before_more [] r k x e = absurd (let z : ◌≡◌ {A = ℕ} 0 1 = cc in omega arith)
   before_more (a ∷ l) r zero x e = e
   before_more (a ∷ l) r (suc k) x e = before_more l r k x e
 
-  the_last : (l : List A) (y : A) → get_elem? (l ++ (y ∷ [])) (length l) ≡ some y
+  the_last : (l : List A) (y : A) → slice_get (l ++ (y ∷ [])) (length l) ≡ Some y
   the_last [] y = refl
   the_last (a ∷ l) y = the_last l y
 
 -- ---- what is known of a stream, by the DATA replies so far
 
 abbrev Known : {A : Type 0} → Kept A → List A → Type 0
-Known {A} k messages = (k.next ≡ number_of (length messages)) × ((n : ℕ) (x : A) → k.held n ≡ some x → LastUnder n x messages)
+Known {A} k messages = (k.next ≡ number_of (length messages)) × ((n : ℕ) (x : A) → k.held n ≡ Some x → LastUnder n x messages)
 
 -- one event more
 module _ {A : Type 0} (k : Kept A) (messages : List A) (known : Known k messages) where
@@ -37,7 +37,7 @@ module _ {A : Type 0} (k : Kept A) (messages : List A) (known : Known k messages
       longer : length (messages ++ (y ∷ [])) ≡ length messages + 1
       longer = length-append messages (y ∷ [])
 
-      by : (n : ℕ) (x : A) (b : Bool) → eqb n k.next ≡ b → cond b (some y) (k.held n) ≡ some x → LastUnder n x (messages ++ (y ∷ []))
+      by : (n : ℕ) (x : A) (b : Bool) → eqb n k.next ≡ b → cond b (Some y) (k.held n) ≡ Some x → LastUnder n x (messages ++ (y ∷ []))
       by n x true t e = record {
         k = length messages;
         message = the_last messages y ∙ e;
@@ -61,7 +61,7 @@ module _ {A : Type 0} (k : Kept A) (messages : List A) (known : Known k messages
   known_acknacked : (first : ℕ) → Known (acknack_in first k) messages
   known_acknacked first = (known.0, λ n x e. by n x (seq_lt n first) e)
     where
-      by : (n : ℕ) (x : A) (b : Bool) → cond b none (k.held n) ≡ some x → LastUnder n x messages
+      by : (n : ℕ) (x : A) (b : Bool) → cond b None (k.held n) ≡ Some x → LastUnder n x messages
       by n x true e = absurd (let z : ◌≡◌ {A = ℕ} 0 1 = cc in omega arith)
       by n x false e = known.1 n x e
 
@@ -83,8 +83,8 @@ abbrev Elsewhere : ℕ → ℕ → ℕ → Type 0
 Elsewhere n m count = (j : ℕ) → j < count → number_of (m + j) ≡ n → ⊥
 
 module _ {A : Type 0} (n : ℕ) (x : A) where
-  stays : (es : List (Event A)) (k : Kept A) (m : ℕ) → k.held n ≡ some x → k.next ≡ number_of m → Elsewhere n m (length (data_of es)) → Spared n es
-      → (on_events es k).held n ≡ some x
+  stays : (es : List (Event A)) (k : Kept A) (m : ℕ) → k.held n ≡ Some x → k.next ≡ number_of m → Elsewhere n m (length (data_of es)) → Spared n es
+      → (on_events es k).held n ≡ Some x
   unfolding on_events on_event data_of
   stays [] k m e next free spared = e
   stays (sent y ∷ es) k m e next free spared =
@@ -107,20 +107,20 @@ one_behind_other (e ∷ es) fs k = one_behind_other es fs (on_event e k)
 -- ---- what is repeated is held under the number of a bit that is set
 
 module _ {A : Type 0} (held : ℕ → Option A) (first bitmap : ℕ) (x : A) (messages : List A)
-    (each : (n : ℕ) → held n ≡ some x → LastUnder n x messages) where
+    (each : (n : ℕ) → held n ≡ Some x → LastUnder n x messages) where
   asked_from : (k bit : ℕ) → bit + k ≤ 16 → Memᴰ x (repeated_from held first bitmap k bit) → AskedLast first bitmap x messages
   unfolding repeated_from
   asked_from zero bit h i = absurd (Memᴰ.not-nil i)
   asked_from (suc k) bit h i = ⊎_elim (here (bit_of bitmap bit) refl (held (plus first bit)) refl) (asked_from k (suc bit) (omega arith)) (Memᴰ.append_cases _ i)
     where
       here : (b : Bool) → bit_of bitmap bit ≡ b → (o : Option A) → held (plus first bit) ≡ o → Memᴰ x (cond b (list_of o) []) → AskedLast first bitmap x messages
-      here true t (some y) e j = record {
+      here true t (Some y) e j = record {
         bit = bit;
         low = omega arith;
         asked = t;
-        message = each (plus first bit) (e ∙ ap some (sym (Memᴰ.eq_of_singleton j)));
+        message = each (plus first bit) (e ∙ ap Some (sym (Memᴰ.eq_of_singleton j)));
       }
-      here true t none e j = absurd (Memᴰ.not-nil j)
+      here true t None e j = absurd (Memᴰ.not-nil j)
       here false t o e j = absurd (Memᴰ.not-nil j)
 
 -- ---- from a stream that was just opened

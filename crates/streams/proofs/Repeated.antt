@@ -1,10 +1,7 @@
 -- The messages that an ACKNACK is answered by: those of the numbers that `process_acknack` lists are those that what is kept of the stream tells.
 use Rattle.std.proofs.Common.{◌≡◌, ℕ, zero, suc, ◌-◌, ◌*◌, ◌≤◌, Bool, true, false, cond, List, [], ◌∷◌, ◌++◌, map, length, get_or, drop, sym, refl, ap, ◌∙◌, arith, length-drop, length-take-le}
-use mathlib.Core.Option.{Option, none, some}
 use lib.ListN.{length-map}
 use Rattle.streams.specs.declared.state.StreamState.{StreamState}
-use Rattle.streams.specs.declared.sent.Held.{Held}
-use Rattle.streams.specs.declared.sent.Held.TheVariants as held
 use Rattle.streams.specs.Sequence.{plus}
 use Rattle.streams.specs.Places.{place_of, is_held}
 use Rattle.streams.specs.Sent.{need, held_of, bytes_in, held_bytes}
@@ -15,9 +12,11 @@ use Rattle.streams.proofs.sent.Laws.{held_at}
 use Rattle.streams.proofs.Soundness.{drop_sound}
 use Rattle.streams.proofs.Kept.{drop_kept}
 use Rattle.streams.proofs.History.{reads_held}
+use Rattle.std.specs.Prelude.{Err, None, Ok, Result, Some, Option}
+use Rattle.codec.specs.declared.refusals.Refusal.{Refusal}
 
 -- what is held is f of its number
-module _ {A : Type 0} (s : StreamState) (held : ℕ → Option A) (f : ℕ → A) (is : (n : ℕ) → held n ≡ cond (is_held s n) (some (f n)) none) (first bitmap : ℕ) where
+module _ {A : Type 0} (s : StreamState) (held : ℕ → Option A) (f : ℕ → A) (is : (n : ℕ) → held n ≡ cond (is_held s n) (Some (f n)) None) (first bitmap : ℕ) where
   list_from_lem : (k bit : ℕ) → map f (repeats_from s first bitmap k bit) ≡ repeated_from held first bitmap k bit
   unfolding repeats_from wanted repeated_from
   list_from_lem zero bit = refl
@@ -33,7 +32,7 @@ module _ {A : Type 0} (s : StreamState) (held : ℕ → Option A) (f : ℕ → A
       more = repeated_from held first bitmap k (suc bit)
 
       by : (b h : Bool) → map f rest ≡ more
-          → map f (cond (cond b h false) (n ∷ rest) rest) ≡ cond b (list_of (cond h (some (f n)) none)) [] ++ more
+          → map f (cond (cond b h false) (n ∷ rest) rest) ≡ cond b (list_of (cond h (Some (f n)) None)) [] ++ more
       by true true e = ap (λ (l : List A). f n ∷ l) e
       by true false e = e
       by false h e = e
@@ -58,14 +57,14 @@ module _ (s : StreamState) (sound : Sound s) (buffer : List ℕ) (room : need �
   message_of_lem : ℕ → List ℕ
   message_of_lem n = held_bytes (held_of s n (length buffer)) buffer
 
-  told_by_lem : (n : ℕ) → message_held s buffer n ≡ cond (is_held s n) (some (message_of_lem n)) none
+  told_by_lem : (n : ℕ) → message_held s buffer n ≡ cond (is_held s n) (Some (message_of_lem n)) None
   unfolding message_of_lem
   told_by_lem n = by (is_held s n) refl
     where
-      by : (b : Bool) → is_held s n ≡ b → message_held s buffer n ≡ cond b (some (message_of_lem n)) none
+      by : (b : Bool) → is_held s n ≡ b → message_held s buffer n ≡ cond b (Some (message_of_lem n)) None
       by true e =
           let at = read_at s n (bytes_in buffer) (place_of s n) refl (held_low s n e) in
-          at ∙ ap some (sym (reads_held s sound buffer room n _ at))
+          at ∙ ap Some (sym (reads_held s sound buffer room n _ at))
       by false e = read_none s n (bytes_in buffer) (free_place s n e)
 
   pub repeated_held : (first bitmap : ℕ) → map (λ n. held_bytes (held_of s n (length buffer)) buffer) (repeats s first bitmap) ≡ repeated_in (message_held s buffer) first bitmap
@@ -85,9 +84,9 @@ pub held_short : (s : StreamState) (n : ℕ) (buffer : List ℕ) → length (hel
 unfolding held_bytes
 held_short s n buffer = by (held_of s n (length buffer)) refl
   where
-    by : (h : Held) → held_of s n (length buffer) ≡ h → length (held_bytes h buffer) ≤ 1024
-    by (held.At p k) e =
+    by : (h : Result (Option (ℕ × ℕ)) Refusal) → held_of s n (length buffer) ≡ h → length (held_bytes h buffer) ≤ 1024
+    by (Ok (Some (p, k))) e =
         let a = held_at s n (length buffer) p k e in
         rw (length-take-le k (drop (p * 1024) buffer) (rw (length-drop (p * 1024) buffer) (omega (arith, a.low, a.short, a.room_for)))) a.short
-    by held.Nothing e = omega arith
-    by (held.Refused r) e = omega arith
+    by (Ok None) e = omega arith
+    by (Err r) e = omega arith

@@ -1,10 +1,7 @@
 -- Document 02, W5: "each DATA reply now takes the next send sequence in its header and is held": `record_sent` under the next number, then `alloc_send_seq`.
 use Rattle.std.proofs.Common.{◌≡◌, ℕ, ◌<◌, ◌≤◌, Bool, true, false, cond, eqb, List, length, sym, refl, ap, ◌∙◌, arith, le-ltb, ne_eqb, eqb-true, leb-false}
-use mathlib.Core.Option.{some}
 use borrow.Author.Tests.{lt-leb}
 use Rattle.streams.specs.declared.state.StreamState.{StreamState}
-use Rattle.streams.specs.declared.sent.Slot.{Slot}
-use Rattle.streams.specs.declared.sent.Slot.TheVariants as slot
 use Rattle.streams.specs.Places.{is_held, place_of, place_between, is_full, place_for}
 use Rattle.streams.specs.Sent.{need, slot_for, alloc_of, record_of, record_bytes, bytes_in}
 use Rattle.streams.specs.Oldest.{SixteenBits}
@@ -13,6 +10,8 @@ use Rattle.streams.proofs.places.Held.{held_low, read_present}
 use Rattle.streams.proofs.Soundness.{sound_limits}
 use Rattle.streams.proofs.Kept.{alloc_kept, record_kept}
 use Rattle.streams.proofs.History.{step_sound, step_room}
+use Rattle.std.specs.Prelude.{Ok, Option, Result, Some}
+use Rattle.codec.specs.declared.refusals.Refusal.{Refusal}
 
 -- where not all sixteen places are used, there is one for any number
 place_left : (s : StreamState) (n : ℕ) → is_full s ≡ false → place_for s n < 16
@@ -33,7 +32,7 @@ replied_bytes s message buffer = record_bytes s s.next_send_seq message buffer
 module _ (s : StreamState) (sound : Sound s) (other : s.stream_id ≡ 0 → ⊥) (free : is_full s ≡ false) (message buffer : List ℕ)
     (short : length message ≤ 1024) (room : need ≤ length buffer) where
   -- the message has a place, whatever its number
-  pub reply_slot : (n : ℕ) → (slot_for s n (length message) (length buffer) ≡ slot.At (place_for s n)) × (place_for s n < 16)
+  pub reply_slot : (n : ℕ) → (slot_for s n (length message) (length buffer) ≡ Ok (Some (place_for s n))) × (place_for s n < 16)
   unfolding slot_for
   reply_slot n =
       let l = place_left s n free in (
@@ -52,7 +51,7 @@ module _ (s : StreamState) (sound : Sound s) (other : s.stream_id ≡ 0 → ⊥)
       let n = s.next_send_seq in
       let k = kept_of (bytes_in buffer) s in
       alloc_kept (bytes_in (replied_bytes s message buffer)) (record_of s n (length message) (length buffer)).state
-      ∙ ap alloc_in (record_kept s sound n message buffer ∙ ap (λ (a : Slot). record_in a n message k) (reply_slot n).0)
+      ∙ ap alloc_in (record_kept s sound n message buffer ∙ ap (λ (a : Result (Option ℕ) Refusal). record_in a n message k) (reply_slot n).0)
 
   pub reply_sound : Sound (replied s message buffer)
   unfolding after
@@ -71,9 +70,9 @@ module _ (s : StreamState) (sound : Sound s) (other : s.stream_id ≡ 0 → ⊥)
     held = λ m h. by m (eqb m s.next_send_seq) refl (seen m ∙ h);
   }
     where
-      seen : (m : ℕ) → present (cond (eqb m s.next_send_seq) (some message) (message_held s buffer m)) ≡ is_held (replied s message buffer) m
+      seen : (m : ℕ) → present (cond (eqb m s.next_send_seq) (Some message) (message_held s buffer m)) ≡ is_held (replied s message buffer) m
       seen m = sym (ap (λ (k : Kept (List ℕ)). present (k.held m)) reply_kept) ∙ read_present (replied s message buffer) m (bytes_in (replied_bytes s message buffer))
 
-      by : (m : ℕ) (b : Bool) → eqb m s.next_send_seq ≡ b → present (cond b (some message) (message_held s buffer m)) ≡ true → m < 65536
+      by : (m : ℕ) (b : Bool) → eqb m s.next_send_seq ≡ b → present (cond b (Some message) (message_held s buffer m)) ≡ true → m < 65536
       by m true e h = omega (arith, eqb-true m s.next_send_seq e, bits.next)
       by m false e h = bits.held m (sym (read_present s m (bytes_in buffer)) ∙ h)

@@ -1,10 +1,8 @@
 -- What recording a message does to the messages held, as a map from their numbers.
 use Rattle.std.proofs.Common.{◌≡◌, ℕ, ◌+◌, ◌-◌, ◌*◌, ◌<◌, ◌≤◌, Bool, true, false, cond, eqb, ltb, List, length, get_or, take, drop, sym, refl, ap, ◌∙◌, arith, get_or-set_other, get_or-set_same, ltb-false, ltb-true, eq-eqb, ne_eqb, eqb-true}
-use mathlib.Core.Option.{some}
 use borrow.Author.Tests.{eqb-false}
 use Rattle.codec.specs.Bytes.{put_at}
 use Rattle.streams.specs.declared.state.StreamState.{StreamState}
-use Rattle.streams.specs.declared.sent.Slot.TheVariants as slot
 use Rattle.streams.specs.Places.{holds, holds_at, place_of, is_held}
 use Rattle.streams.specs.Sent.{need, slot_for, with_message, bytes_in}
 use Rattle.streams.specs.View.{held_by, message_held, Sound}
@@ -12,6 +10,7 @@ use Rattle.streams.proofs.places.Laws.{never, first_is, first_agree}
 use Rattle.streams.proofs.places.Held.{ChosenFor, chosen, held_low, free_place, held_there, read_at, read_none}
 use Rattle.streams.proofs.sent.Laws.{SlotAt, slot_at}
 use Rattle.streams.proofs.Slots.{read_same, read_before, read_behind}
+use Rattle.std.specs.Prelude.{Ok, Some}
 
 -- a message that is recorded at a place
 module _ (s : StreamState) (sound : Sound s) (n len p : ℕ) (low : p < 16) where
@@ -69,9 +68,9 @@ module _ (buffer message : List ℕ) (p q k : ℕ) (low : p < 16) (short : lengt
 
 -- "A number recorded again replaces its message"; the others stay as they are. What is read of a message may be anything
 -- that is x at its place afterwards, and at every other place what it was.
-module _ {A : Type 0} (read read' : ℕ → ℕ → A) (x : A) (s : StreamState) (sound : Sound s) (n len room p : ℕ) (answer : slot_for s n len room ≡ slot.At p)
+module _ {A : Type 0} (read read' : ℕ → ℕ → A) (x : A) (s : StreamState) (sound : Sound s) (n len room p : ℕ) (answer : slot_for s n len room ≡ Ok (Some p))
     (here : read' p len ≡ x) (elsewhere : (q k : ℕ) → (q ≡ p → ⊥) → k ≤ 1024 → read' q k ≡ read q k) where
-  pub recorded_by : (m : ℕ) → held_by read' (with_message s p n len) m ≡ cond (eqb m n) (some x) (held_by read s m)
+  pub recorded_by : (m : ℕ) → held_by read' (with_message s p n len) m ≡ cond (eqb m n) (Some x) (held_by read s m)
   recorded_by m = by (eqb m n) refl
     where
       a : SlotAt s n len room p
@@ -89,22 +88,22 @@ module _ {A : Type 0} (read read' : ℕ → ℕ → A) (x : A) (s : StreamState)
           let q = place_of s m in
           let far = apart s sound n len p a.low c m h l in
           read_at s' m read' q (place_other s sound n len p a.low c m h) l
-          ∙ ap (λ (k : ℕ). some (read' q (k - 1))) (length_other s sound n len p a.low q far)
-          ∙ ap some (elsewhere q (get_or s.lengths q 0 - 1) far (omega (arith, sound.short q)))
+          ∙ ap (λ (k : ℕ). Some (read' q (k - 1))) (length_other s sound n len p a.low q far)
+          ∙ ap Some (elsewhere q (get_or s.lengths q 0 - 1) far (omega (arith, sound.short q)))
           ∙ sym (read_at s m read q refl l)
       other h false e =
           read_none s' m read' (place_other s sound n len p a.low c m h ∙ free_place s m e) ∙ sym (read_none s m read (free_place s m e))
 
-      by : (t : Bool) → eqb m n ≡ t → held_by read' s' m ≡ cond t (some x) (held_by read s m)
+      by : (t : Bool) → eqb m n ≡ t → held_by read' s' m ≡ cond t (Some x) (held_by read s m)
       by true e =
           rw (eqb-true m n e)
           (read_at s' n read' p (place_same s sound n len p a.low c) a.low
-          ∙ ap some (ap (read' p) (length_same s sound n len p a.low) ∙ here))
+          ∙ ap Some (ap (read' p) (length_same s sound n len p a.low) ∙ here))
       by false e = other (eqb-false m n e) (is_held s m) refl
 
 -- its bytes
-pub recorded : (s : StreamState) → Sound s → (n : ℕ) (message buffer : List ℕ) (p : ℕ) → slot_for s n (length message) (length buffer) ≡ slot.At p
-    → (m : ℕ) → message_held (with_message s p n (length message)) (put_at buffer (p * 1024) message) m ≡ cond (eqb m n) (some message) (message_held s buffer m)
+pub recorded : (s : StreamState) → Sound s → (n : ℕ) (message buffer : List ℕ) (p : ℕ) → slot_for s n (length message) (length buffer) ≡ Ok (Some p)
+    → (m : ℕ) → message_held (with_message s p n (length message)) (put_at buffer (p * 1024) message) m ≡ cond (eqb m n) (Some message) (message_held s buffer m)
 recorded s sound n message buffer p answer =
     let a = slot_at s n (length message) (length buffer) p answer in
     recorded_by (bytes_in buffer) (bytes_in (put_at buffer (p * 1024) message)) message s sound n (length message) (length buffer) p answer

@@ -1,5 +1,5 @@
 -- "A stream holds 16 unacknowledged messages of up to 1,024 bytes": which of the sixteen places holds which number.
-use Rattle.std.specs.Prelude.{ℕ, zero, suc, Bool, false, cond, ◌==◌, nat_le, nat_lt, slice_index}
+use Rattle.std.specs.Prelude.{ℕ, zero, suc, Bool, false, cond, ◌==◌, nat_le, nat_lt, slice_index, Option, Some, None}
 use Rattle.streams.specs.declared.state.StreamState.{StreamState}
 
 -- the first of k places from i on at which a test holds, or the one behind them
@@ -15,6 +15,10 @@ count_from t (suc k) i = cond (t i) (suc (count_from t k (suc i))) (count_from t
 -- the first of the sixteen places at which a test holds, or 16
 unfoldable pub first_place : (ℕ → Bool) → ℕ
 first_place t = first_from t 16 0
+
+-- a place of the sixteen, where a search has found one
+abbrev pub some_place : ℕ → Option ℕ
+some_place p = cond (nat_lt p 16) (Some p) None
 
 -- a place of length 0 is free; any other holds its number
 unfoldable pub holds : ℕ → ℕ → ℕ → Bool

@@ -1,8 +1,7 @@
 -- What an ACKNACK repeats, said of the DATA replies alone, whatever comes to the stream and in any order.
-use Rattle.std.specs.Prelude.{◌≡◌, ℕ, ◌<◌, true, false, List, [], ◌∷◌, ◌++◌, length, ◌≢◌}
+use Rattle.std.specs.Prelude.{◌≡◌, ℕ, ◌<◌, true, false, List, [], ◌∷◌, ◌++◌, length, ◌≢◌, Some}
 use mathlib.Core.List.{Memᴰ}
-use Rattle.std.proofs.Math.Option.{some}
-use Rattle.std.proofs.Math.ListN.{get_elem?}
+use Rattle.std.specs.List.{slice_get}
 use Rattle.streams.specs.Sequence.{plus, seq_lt}
 use Rattle.streams.specs.Acknowledged.{bit_of}
 use Rattle.streams.specs.View.{Kept, fresh_of, sent_in, acknack_in, repeated_in, receive_in}
@@ -40,7 +39,7 @@ number_of k = plus 0 k
 -- of these messages x is the last that took the number n
 pub record LastUnder {A : Type 0} (n : ℕ) (x : A) (messages : List A) : Type 0 where
   pub k : ℕ
-  pub message : get_elem? messages k ≡ some x
+  pub message : slice_get messages k ≡ Some x
   pub number : number_of k ≡ n
   pub last : (j : ℕ) → k < j → j < length messages → number_of j ≢ n
 
@@ -59,9 +58,9 @@ pub record RepeatsAsSent {A : Type 0} (id : ℕ) (es : List (Event A)) : Type 0 
   -- document 02, W5: "each DATA reply now takes the next send sequence": behind so many of them, the next one takes the number of so many
   pub next : (stream_after id es).next ≡ number_of (length (data_of es))
   -- "and is held": what is held under a number is what was last sent under it
-  pub held : (n : ℕ) (x : A) → (stream_after id es).held n ≡ some x → LastUnder n x (data_of es)
+  pub held : (n : ℕ) (x : A) → (stream_after id es).held n ≡ Some x → LastUnder n x (data_of es)
   -- it stays held until it is acknowledged, or its number taken again by the 65,536th behind it
   pub kept : (before behind : List (Event A)) (x : A) → es ≡ before ++ (sent x ∷ behind) → length (data_of behind) < 65536
-      → let n = number_of (length (data_of before)) in Spared n behind → (stream_after id es).held n ≡ some x
+      → let n = number_of (length (data_of before)) in Spared n behind → (stream_after id es).held n ≡ Some x
   -- "An ACKNACK is answered by the listed messages, byte for byte": each is what was last sent under a number that the bitmap asks for
   pub repeated : (first bitmap : ℕ) (x : A) → Memᴰ x (repeated_in (acknack_in first (stream_after id es)).held first bitmap) → AskedLast first bitmap x (data_of es)

@@ -1,20 +1,18 @@
 -- What the tables keep of a stream, read as document 01's "number, next to send, expected, held messages", and what calls make of it.
-use Rattle.std.specs.Prelude.{◌≡◌, ℕ, zero, suc, ◌-◌, ◌<◌, ◌≤◌, Bool, true, false, cond, not, List, [], ◌∷◌, ◌++◌, length, ◌==◌, slice_index}
-use Rattle.std.proofs.Math.Option.{Option, none, some}
+use Rattle.std.specs.Prelude.{◌≡◌, ℕ, zero, suc, ◌-◌, ◌<◌, ◌≤◌, Bool, true, false, cond, not, List, [], ◌∷◌, ◌++◌, length, ◌==◌, slice_index, Err, None, Ok, Result, Some, Option}
 use Rattle.streams.specs.declared.state.StreamState.{StreamState}
-use Rattle.streams.specs.declared.sent.Slot.{Slot}
-use Rattle.streams.specs.declared.sent.Slot.TheVariants as slot
 use Rattle.streams.specs.Sequence.{plus, seq_lt}
 use Rattle.streams.specs.Places.{count_from, holds_at, place_of, is_held}
 use Rattle.streams.specs.Sent.{alloc_of, record_of, record_bytes, bytes_in}
 use Rattle.streams.specs.Acknowledged.{bit_of, acknowledge}
 use Rattle.streams.specs.Received.{received_of}
+use Rattle.codec.specs.declared.refusals.Refusal.{Refusal}
 
 -- ---- the held messages, as the Rust's map from their numbers
 
 -- what is read of the message held under a number, given its place and how many bytes it has
 unfoldable pub held_by : {A : Type 0} → (ℕ → ℕ → A) → StreamState → ℕ → Option A
-held_by read s n = cond (is_held s n) (some (read (place_of s n) (slice_index s.lengths (place_of s n) - 1))) none
+held_by read s n = cond (is_held s n) (Some (read (place_of s n) (slice_index s.lengths (place_of s n) - 1))) None
 
 -- its bytes, in a lent buffer
 abbrev pub message_held : StreamState → List ℕ → ℕ → Option (List ℕ)
@@ -26,8 +24,8 @@ length_in place len = len
 
 -- whether there is one
 abbrev pub present : {A : Type 0} → Option A → Bool
-present (some x) = true
-present none = false
+present (Some x) = true
+present None = false
 
 -- a sequence number is one of 65,536; the name keeps every proof from counting them
 unfoldable pub all_numbers : ℕ
@@ -51,7 +49,7 @@ kept_of read s = record { number = s.stream_id; next = s.next_send_seq; expected
 
 -- a stream that was just opened
 abbrev pub fresh_of : {A : Type 0} → ℕ → Kept A
-fresh_of n = record { number = n; next = 0; expected = 0; held = λ m. none }
+fresh_of n = record { number = n; next = 0; expected = 0; held = λ m. None }
 
 -- "after 65,535 comes 0"
 abbrev pub alloc_in : {A : Type 0} → Kept A → Kept A
@@ -59,12 +57,12 @@ alloc_in k = record { number = k.number; next = plus k.next 1; expected = k.expe
 
 -- "A number recorded again replaces its message. Best effort (stream 0) records nothing"; nor does a refusal
 abbrev pub holding : {A : Type 0} → ℕ → A → Kept A → Kept A
-holding n x k = record { number = k.number; next = k.next; expected = k.expected; held = λ m. cond (m == n) (some x) (k.held m) }
+holding n x k = record { number = k.number; next = k.next; expected = k.expected; held = λ m. cond (m == n) (Some x) (k.held m) }
 
-abbrev pub record_in : {A : Type 0} → Slot → ℕ → A → Kept A → Kept A
-record_in (slot.At place) n x k = holding n x k
-record_in slot.Nowhere n x k = k
-record_in (slot.Refused r) n x k = k
+abbrev pub record_in : {A : Type 0} → Result (Option ℕ) Refusal → ℕ → A → Kept A → Kept A
+record_in (Ok (Some place)) n x k = holding n x k
+record_in (Ok None) n x k = k
+record_in (Err r) n x k = k
 
 -- document 02, W5: "each DATA reply now takes the next send sequence in its header and is held"
 abbrev pub sent_in : {A : Type 0} → A → Kept A → Kept A
@@ -72,12 +70,12 @@ sent_in x k = alloc_in (holding k.next x k)
 
 -- "`process_acknack` drops held numbers before `first_unacked_seq`"
 abbrev pub acknack_in : {A : Type 0} → ℕ → Kept A → Kept A
-acknack_in first k = record { number = k.number; next = k.next; expected = k.expected; held = λ m. cond (seq_lt m first) none (k.held m) }
+acknack_in first k = record { number = k.number; next = k.next; expected = k.expected; held = λ m. cond (seq_lt m first) None (k.held m) }
 
 -- the message, or none
 abbrev pub list_of : {A : Type 0} → Option A → List A
-list_of (some x) = x ∷ []
-list_of none = []
+list_of (Some x) = x ∷ []
+list_of None = []
 
 -- document 02, W5: "An ACKNACK is answered by the listed messages, byte for byte, in bit order": those of k bits from one on
 unfoldable pub repeated_from : {A : Type 0} → (ℕ → Option A) → ℕ → ℕ → ℕ → ℕ → List A

@@ -6,17 +6,18 @@ ghost use Rattle.streams.specs.Sequence.{plus, minus, seq_lt};
 pub fn seq_add(seq: u16, steps: u16) -> u16
     ensures { result ≡ plus seq steps }
 {
-    std::num::wrapping_add_u16(seq, steps)
+    seq.wrapping_add(steps)
 }
 
 // How far `a` lies behind `b`, going up from `b` and past 65,535 to 0.
 pub fn seq_sub(a: u16, b: u16) -> u16
     ensures { result ≡ minus a b }
 {
-    std::num::wrapping_sub_u16(a, b)
+    a.wrapping_sub(b)
 }
 
 // Whether `a` comes before `b`. At distance 32,768 each comes before the other.
+#[tactic(auto, unfolding(crate::specs::Sequence::seq_lt))]
 pub fn seq_lt(a: u16, b: u16) -> bool
     ensures { result ≡ seq_lt a b }
 {

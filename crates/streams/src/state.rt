@@ -11,7 +11,7 @@ pub const BUFFER_BYTES: usize = 16384;
 // A message of SLOT_BYTES bytes, as `lengths` writes it.
 pub const LONGEST: u16 = 1025;
 
-#[derive(Clone, Copy)]
+#[derive(Clone, Copy, Debug, PartialEq, Eq)]
 pub enum StreamKind {
     BestEffort,
     Reliable,
@@ -21,10 +21,9 @@ impl StreamKind {
     pub fn from_stream_id(id: u8) -> StreamKind
         ensures { result ≡ stream_kind id }
     {
-        if id == 0 {
-            StreamKind::BestEffort
-        } else {
-            StreamKind::Reliable
+        match id {
+            0 => StreamKind::BestEffort,
+            _ => StreamKind::Reliable,
         }
     }
 }
@@ -32,7 +31,8 @@ impl StreamKind {
 // Numbers only, so that a row of numbers can hold one. Of the sixteen places, place i is free where
 // lengths[i] is 0; else it holds the message numbers[i], whose lengths[i] - 1 bytes lie from 1,024 * i on in
 // the lent buffer. A message is dropped by its length alone: no byte moves.
-#[derive(Clone, Copy)]
+// Two arrays and not one of pairs: specs/State.antt names both fields, and the rows that the host lends have this layout.
+#[derive(Clone, Copy, Debug, PartialEq, Eq)]
 pub struct StreamState {
     pub stream_id: u8,
     pub next_send_seq: u16,

@@ -12,22 +12,22 @@ use Rattle.codec.specs.declared.submessages.ObjectNumber.{ObjectNumber}
 use Rattle.sessions.specs.Sending.{sent_streams, sent_held}
 use Rattle.sessions.specs.Table.{got_of}
 use Rattle.sessions.specs.declared.objects.Object.{Object}
-use Rattle.sessions.specs.declared.table.Got.{Got}
-use Rattle.sessions.specs.declared.table.Got.TheVariants as got
 use Rattle.moves.specs.Answers.{keeps_of, says_of, kept_sessions, kept_objects}
 use Rattle.moves.specs.Replies.{data_bytes}
 use Rattle.moves.specs.RowsStreams.{read_of}
-use Rattle.moves.specs.declared.answers.Keeps.{Keeps}
 use Rattle.moves.specs.declared.answers.Says.TheVariants.{Data}
 use Rattle.agent.specs.Answered.{says_fits, sequence_of, says_bytes, says_streams, says_held, answered_by, answered_sessions, answered_streams, answered_objects, answered_held}
 use Rattle.agent.specs.Host.{answers_now, told_by, begun_by, begun_sessions, begun_streams, begun_objects, begun_held, resumes_fit}
 use Rattle.agent.specs.Run.{put_replies}
 use Rattle.agent.specs.Step.{replied, joined_replies}
-use Rattle.agent.specs.declared.judge.Resumes.{Resumes}
-use Rattle.agent.specs.declared.judge.Resumes.TheVariants as resumes
 use Rattle.agent.specs.declared.turn.Frame.{Frame}
 use Rattle.agent.proofs.Back.{line_length, line_back}
 use Rattle.agent.proofs.MoveBytes.{data_long}
+use Rattle.std.specs.Prelude.{Err, None, Ok, Option, Result, Some}
+use Rattle.moves.specs.declared.proxy.BridgeAnswer.{BridgeAnswer}
+use Rattle.sessions.specs.declared.table.ClientSession.{ClientSession}
+use Rattle.codec.specs.declared.refusals.Refusal.{Refusal}
+use Rattle.moves.specs.declared.proxy.Task.{Task}
 
 pub one_long : (id : ℕ) (bytes : List ℕ) → length bytes ≡ length (joined_replies (replied id bytes ∷ []))
 unfolding joined_replies
@@ -50,57 +50,57 @@ module _ (s x : List (List ℕ)) (o : List Object) (h out : List ℕ) (f : Frame
   abbrev id : ℕ
   id = f.session_id
 
-  abbrev told_bytes : Resumes → List ℕ
+  abbrev told_bytes : Option (ObjectNumber × Task × BridgeAnswer) → List ℕ
   told_bytes r = says_bytes (told_by r).says f (sequence_of s x f) (told_by r).number sample
 
   -- the count, the stores and the output
-  abbrev pub Begun : Resumes → ℕ → List (List ℕ) → List (List ℕ) → List Object → List ℕ → List ℕ → Type 0
+  abbrev pub Begun : Option (ObjectNumber × Task × BridgeAnswer) → ℕ → List (List ℕ) → List (List ℕ) → List Object → List ℕ → List ℕ → Type 0
   Begun r n s' x' o' h' out' =
       (n ≡ length (joined_replies (begun_by r s x f sample))) × (s' ≡ begun_sessions r s o f) × (x' ≡ begun_streams r s x h f sample)
       × (o' ≡ begun_objects r s o f) × (h' ≡ begun_held r s x h f sample) × (out' ≡ put_replies f.room out 0 (begun_by r s x f sample))
 
-  pub begun_now : (r : Resumes) → answers_now r (got_of s id) ≡ true
+  pub begun_now : (r : Option (ObjectNumber × Task × BridgeAnswer)) → answers_now r (got_of s id) ≡ true
       → Begun r (length (told_bytes r)) (kept_sessions (told_by r).keeps s o id) (says_streams (told_by r).says f s x h (told_bytes r)) (kept_objects (told_by r).keeps s o id)
       (says_held (told_by r).says f s x h (told_bytes r)) (put_bytes out 0 (told_bytes r))
-  begun_now resumes.Nothing c = absurd (true≢false (sym c))
-  begun_now (resumes.Answer number task a) c = go (got_of s id) c
+  begun_now None c = absurd (true≢false (sym c))
+  begun_now (Some (number, task, a)) c = go (got_of s id) c
     where
-      keeps : Keeps
+      keeps : Option Object
       keeps = keeps_of number task a
 
       bytes : List ℕ
       bytes = says_bytes (says_of task a) f (sequence_of s x f) number sample
 
-      go : (g : Got) → answers_now (resumes.Answer number task a) g ≡ true
+      go : (g : Result (Option ClientSession) Refusal) → answers_now (Some (number, task, a)) g ≡ true
           → (length bytes ≡ length (joined_replies (answered_by g f (sequence_of s x f) sample number task a)))
           × (kept_sessions keeps s o id ≡ answered_sessions g keeps s o id)
           × (says_streams (says_of task a) f s x h bytes ≡ answered_streams g (says_of task a) f s x h bytes)
           × (kept_objects keeps s o id ≡ answered_objects g keeps s o id)
           × (says_held (says_of task a) f s x h bytes ≡ answered_held g (says_of task a) f s x h bytes)
           × (put_bytes out 0 bytes ≡ put_replies f.room out 0 (answered_by g f (sequence_of s x f) sample number task a))
-      go (got.Session y) e = (one_long id bytes, refl, refl, refl, refl, one_written f.room out id bytes)
-      go got.NotLive e = absurd (true≢false (sym e))
-      go (got.Refused r) e = absurd (true≢false (sym e))
+      go (Ok (Some y)) e = (one_long id bytes, refl, refl, refl, refl, one_written f.room out id bytes)
+      go (Ok None) e = absurd (true≢false (sym e))
+      go (Err r) e = absurd (true≢false (sym e))
 
-  pub begun_not : (r : Resumes) → answers_now r (got_of s id) ≡ false → Begun r 0 s x o h out
-  begun_not resumes.Nothing c = (none_long, refl, refl, refl, refl, none_written f.room out)
-  begun_not (resumes.Answer number task a) c = go (got_of s id) c
+  pub begun_not : (r : Option (ObjectNumber × Task × BridgeAnswer)) → answers_now r (got_of s id) ≡ false → Begun r 0 s x o h out
+  begun_not None c = (none_long, refl, refl, refl, refl, none_written f.room out)
+  begun_not (Some (number, task, a)) c = go (got_of s id) c
     where
       bytes : List ℕ
       bytes = says_bytes (says_of task a) f (sequence_of s x f) number sample
 
-      go : (g : Got) → answers_now (resumes.Answer number task a) g ≡ false
+      go : (g : Result (Option ClientSession) Refusal) → answers_now (Some (number, task, a)) g ≡ false
           → (0 ≡ length (joined_replies (answered_by g f (sequence_of s x f) sample number task a))) × (s ≡ answered_sessions g (keeps_of number task a) s o id)
           × (x ≡ answered_streams g (says_of task a) f s x h bytes) × (o ≡ answered_objects g (keeps_of number task a) s o id)
           × (h ≡ answered_held g (says_of task a) f s x h bytes) × (out ≡ put_replies f.room out 0 (answered_by g f (sequence_of s x f) sample number task a))
-      go (got.Session y) e = absurd (true≢false e)
-      go got.NotLive e = (none_long, refl, refl, refl, refl, none_written f.room out)
-      go (got.Refused r) e = (none_long, refl, refl, refl, refl, none_written f.room out)
+      go (Ok (Some y)) e = absurd (true≢false e)
+      go (Ok None) e = (none_long, refl, refl, refl, refl, none_written f.room out)
+      go (Err r) e = (none_long, refl, refl, refl, refl, none_written f.room out)
 
 -- a sample that fits says so of what is said
-pub says_fit : (r : Resumes) (stream n : ℕ) → resumes_fit r stream n ≡ true → says_fits (told_by r).says stream n ≡ true
-says_fit resumes.Nothing stream n h = refl
-says_fit (resumes.Answer number task a) stream n h = h
+pub says_fit : (r : Option (ObjectNumber × Task × BridgeAnswer)) (stream n : ℕ) → resumes_fit r stream n ≡ true → says_fits (told_by r).says stream n ≡ true
+says_fit None stream n h = refl
+says_fit (Some (number, task, a)) stream n h = h
 
 -- ---- DATA
 

@@ -1,20 +1,22 @@
 -- Laws of `word_at`, `le16` and `put_at`.
 use Prim.Native.Nat.{ℕ, zero, suc, ◌+◌, ◌-◌, ◌≤◌, ◌<◌, ◌/◌, ◌%◌}
-use mathlib.Core.Path.{◌≡◌, refl, sym, ap, ◌∙◌}
+use mathlib.Core.Path.{◌≡◌, refl, sym, ◌∙◌}
 use mathlib.Core.List.{List, [], ◌∷◌, ◌++◌, append_assoc, append-nil}
 use native.Mathlib.Numerals.{add-one}
 use native.Mathlib.Nat.{not-suc-le-zero, le_of_suc-le-suc}
 use native.Mathlib.Omega.{arith}
 use native.Mathlib.Nat.{add_assoc, add-zero}
-use lib.ListN.{get_or, length, take, drop, set, length-append, length-take, length-drop, take-append-drop, replicate, length-replicate, drop_of_length-le}
-use lib.Seq.{sets, sets-eq, paste, take-length, length-take-le, take-add, take_at, drop-append-add, drop-drop}
+use lib.ListN.{get_or, length, take, drop, set, length-append, length-take, length-drop, take-append-drop}
+use lib.Seq.{sets, sets-eq, paste, take-length, length-take-le, take_at, drop-append-add, drop-drop}
 use mathlib.Core.Bool.{Bool, true, false}
 use native.Mathlib.Decide.{dec_le}
 use lib.Dec.{leb}
 use borrow.Author.Tests.{lt-ltb, le-ltb, le-leb, lt-leb, leb-true, leb-false}
-use Rattle.codec.specs.Bytes.{put_at, put_of, put_bytes, write_of, write_bytes, le16}
-use Rattle.codec.specs.declared.bytes.Written.TheVariants.{Bytes, Refused}
+use Rattle.codec.specs.Bytes.{put_at, put_of, put_bytes, write_of, write_bytes, le16, le32}
 use Rattle.codec.specs.declared.refusals.Refusal.TheVariants.{TooLong, OutputTooShort}
+use mir.Syntax.{w32}
+use Rattle.std.specs.Int.{to_le_bytes}
+use Rattle.std.specs.Prelude.{Err, Ok}
 
 -- stores one behind the other are one write
 pub put_sets : (out : List ℕ) (at : ℕ) (bytes : List ℕ) → at + length bytes ≤ length out → sets out at bytes ≡ put_at out at bytes
@@ -31,14 +33,23 @@ pub word_sets : (out : List ℕ) (at n : ℕ) → at + 2 ≤ length out → set 
 unfolding le16
 word_sets out at n h = rw (add-one at) (put_sets out at (n % 256 ∷ n / 256 % 256 ∷ []) h)
 
+-- the four bytes of a number, low byte first
+pub quad_bytes : (n : ℕ) → to_le_bytes w32 n ≡ le32 n
+unfolding le32 le16
+quad_bytes n =
+    let a : n % 65536 % 256 ≡ n % 256 = omega arith in
+    let b : n % 65536 / 256 % 256 ≡ n / 256 % 256 = omega arith in
+    let d : n / 65536 / 256 % 256 ≡ n / 16777216 % 256 = omega arith in
+    rw (a, b, d)
+
 -- 13, and what fits
 pub put_short : (out : List ℕ) (at : ℕ) (bytes : List ℕ) → length out < at + length bytes
-    → (Refused OutputTooShort ≡ put_of out at bytes) × (out ≡ put_bytes out at bytes)
+    → (Err OutputTooShort ≡ put_of out at bytes) × (out ≡ put_bytes out at bytes)
 unfolding put_of put_bytes
 put_short out at bytes h = rw (lt-ltb (length out) (at + length bytes) h) (refl, refl)
 
 pub put_fits : (out : List ℕ) (at : ℕ) (bytes : List ℕ) → at + length bytes ≤ length out
-    → (Bytes (length bytes) ≡ put_of out at bytes) × (put_at out at bytes ≡ put_bytes out at bytes)
+    → (Ok (length bytes) ≡ put_of out at bytes) × (put_at out at bytes ≡ put_bytes out at bytes)
 unfolding put_of put_bytes
 put_fits out at bytes h = rw (le-ltb (length out) (at + length bytes) h) (refl, refl)
 
@@ -67,23 +78,6 @@ pub put_nothing : (out : List ℕ) (at : ℕ) → put_at out at [] ≡ out
 unfolding put_at
 put_nothing out at = rw (append-nil (take at out), add-zero at) (take-append-drop at out)
 
--- a write over the whole of a new array
-pub put_over : (n : ℕ) (bytes : List ℕ) → length bytes ≡ n → put_at (replicate n 0) 0 bytes ≡ bytes
-unfolding put_at
-put_over n bytes e =
-    let new : List ℕ = replicate n 0 in
-    let l : length new ≡ n = length-replicate n 0 in
-    let none : drop (0 + length bytes) new ≡ [] = drop_of_length-le new {i = 0 + length bytes} (omega arith) in
-    rw (none, append-nil bytes) refl
-
--- a write that has come to `from`, and goes on to `end`
-pub put_on : (out : List ℕ) (at : ℕ) (src : List ℕ) (from end : ℕ) → at ≤ length out → from ≤ end → end ≤ length src
-    → put_at (put_at out at (take from src)) (at + from) (take (end - from) (drop from src)) ≡ put_at out at (take end src)
-put_on out at src from end h l k =
-    let n : from + (end - from) ≡ end = omega arith in
-    let t : length (take from src) ≡ from = length-take-le from src (omega arith) in
-    (rw t at (put_behind out at (take from src) (take (end - from) (drop from src)) h)) ∙ ap (put_at out at) (rw n at (sym (take-add from (end - from) src)))
-
 -- a write that fits leaves the output as long as it was
 pub length_put : (out : List ℕ) (at : ℕ) (x : List ℕ) → at + length x ≤ length out → length (put_at out at x) ≡ length out
 unfolding put_at
@@ -111,14 +105,14 @@ fits_no r a b e t = leb-false a b (sym e ∙ t)
 
 -- 12, then 13, then what fits
 module _ (n : ℕ) (out : List ℕ) (at : ℕ) (bytes : List ℕ) where
-  pub write_over : 65535 < n → (Refused TooLong ≡ write_of n out at bytes) × (out ≡ write_bytes n out at bytes)
+  pub write_over : 65535 < n → (Err TooLong ≡ write_of n out at bytes) × (out ≡ write_bytes n out at bytes)
   unfolding write_of write_bytes
   write_over h = rw (lt-ltb 65535 n h) (refl, refl)
 
-  pub write_short : n ≤ 65535 → length out < at + length bytes → (Refused OutputTooShort ≡ write_of n out at bytes) × (out ≡ write_bytes n out at bytes)
+  pub write_short : n ≤ 65535 → length out < at + length bytes → (Err OutputTooShort ≡ write_of n out at bytes) × (out ≡ write_bytes n out at bytes)
   unfolding write_of write_bytes
   write_short h k = rw (le-ltb 65535 n h) (put_short out at bytes k)
 
-  pub write_fits : n ≤ 65535 → at + length bytes ≤ length out → (Bytes (length bytes) ≡ write_of n out at bytes) × (put_at out at bytes ≡ write_bytes n out at bytes)
+  pub write_fits : n ≤ 65535 → at + length bytes ≤ length out → (Ok (length bytes) ≡ write_of n out at bytes) × (put_at out at bytes ≡ write_bytes n out at bytes)
   unfolding write_of write_bytes
   write_fits h k = rw (le-ltb 65535 n h) (put_fits out at bytes k)

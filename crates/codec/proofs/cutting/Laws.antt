@@ -12,11 +12,10 @@ use lib.ListN.{get_or, length, take, drop, length-drop, take-append-drop, drop_o
 use lib.Seq.{take-nil, drop-nil, drop-drop}
 use Rattle.codec.specs.Bytes.{le16, put_at, put_of, put_bytes}
 use Rattle.codec.specs.Cutting.{fragment_bytes, cut_off, bodies, joined, numbered, cut, count_of, fragment_of, fragment_out}
-use Rattle.codec.specs.declared.bytes.Written.TheVariants as written
-use Rattle.codec.specs.declared.cutting.FragmentCount.TheVariants as count
 use Rattle.codec.specs.declared.refusals.Refusal.{Refusal}
 use Rattle.codec.specs.declared.refusals.Refusal.TheVariants.{TooManyFragments, FragmentNumber}
 use Rattle.codec.proofs.bytes.Laws.{put_behind}
+use Rattle.std.specs.Prelude.{Err, Ok}
 
 -- nothing is cut into nothing
 cut_nothing : (turns size : ℕ) → cut_off turns size [] ≡ []
@@ -123,27 +122,27 @@ length_cut size p some h = cut_bodies size p ∙ length_bodies size some p h
 
 -- 9, and a number of fragments
 module _ (size : ℕ) (p : List ℕ) (some : 0 < size) (bytes : 0 < length p) where
-  pub count_many : 65535 ≤ (length p - 1) / size → count.Refused TooManyFragments ≡ count_of p size
+  pub count_many : 65535 ≤ (length p - 1) / size → Err TooManyFragments ≡ count_of p size
   unfolding count_of
   count_many h =
       rw (ne_eqb size 0 (omega arith), ne_eqb (length p) 0 (omega arith), lt-ltb 65535 (length (cut size p)) (omega (arith, length_cut size p some bytes)))
 
-  pub count_few : (length p - 1) / size < 65535 → count.Fragments ((length p - 1) / size + 1) ≡ count_of p size
+  pub count_few : (length p - 1) / size < 65535 → Ok ((length p - 1) / size + 1) ≡ count_of p size
   unfolding count_of
   count_few h =
       let n = length_cut size p some bytes in
-      rw (ne_eqb size 0 (omega arith), ne_eqb (length p) 0 (omega arith), le-ltb 65535 (length (cut size p)) (omega arith)) (ap count.Fragments (omega arith))
+      rw (ne_eqb size 0 (omega arith), ne_eqb (length p) 0 (omega arith), le-ltb 65535 (length (cut size p)) (omega arith)) (ap Ok (omega arith))
 
 -- what a number of fragments tells
 count_picks : (total n : ℕ) (zero-size no_bytes many : Bool) (a b : Refusal)
-    → cond zero-size (count.Refused a) (cond no_bytes (count.Refused b) (cond many (count.Refused TooManyFragments) (count.Fragments n))) ≡ count.Fragments total
+    → cond zero-size (Err a) (cond no_bytes (Err b) (cond many (Err TooManyFragments) (Ok n))) ≡ Ok total
     → (zero-size ≡ false) × (no_bytes ≡ false) × (n ≡ total)
 count_picks total n false false false a b e = (refl, refl, cc)
 count_picks total n true y z a b e = let q : ◌≡◌ {A = ℕ} 0 1 = cc in absurd (omega arith)
 count_picks total n false true z a b e = let q : ◌≡◌ {A = ℕ} 0 1 = cc in absurd (omega arith)
 count_picks total n false false true a b e = let q : ◌≡◌ {A = ℕ} 0 1 = cc in absurd (omega arith)
 
-pub count_tells : (size : ℕ) (p : List ℕ) (total : ℕ) → count_of p size ≡ count.Fragments total
+pub count_tells : (size : ℕ) (p : List ℕ) (total : ℕ) → count_of p size ≡ Ok total
     → (0 < size) × (0 < length p) × (length (cut size p) ≡ total)
 unfolding count_of
 count_tells size p total e =
@@ -154,17 +153,17 @@ count_tells size p total e =
 
 -- each answer of `fragment`
 module _ (p : List ℕ) (size k : ℕ) (out : List ℕ) where
-  pub fragment_refused : (why : Refusal) → count_of p size ≡ count.Refused why
-      → (written.Refused why ≡ fragment_of p size k out) × (out ≡ fragment_out p size k out)
+  pub fragment_refused : (why : Refusal) → count_of p size ≡ Err why
+      → (Err why ≡ fragment_of p size k out) × (out ≡ fragment_out p size k out)
   unfolding fragment_of fragment_out
   fragment_refused why e = rw e (refl, refl)
 
-  pub fragment_past : (total : ℕ) → count_of p size ≡ count.Fragments total → total ≤ k
-      → (written.Refused FragmentNumber ≡ fragment_of p size k out) × (out ≡ fragment_out p size k out)
+  pub fragment_past : (total : ℕ) → count_of p size ≡ Ok total → total ≤ k
+      → (Err FragmentNumber ≡ fragment_of p size k out) × (out ≡ fragment_out p size k out)
   unfolding fragment_of fragment_out
   fragment_past total e h = rw (e, le-ltb k total h) (refl, refl)
 
-  pub fragment_there : (total : ℕ) → count_of p size ≡ count.Fragments total → k < total
+  pub fragment_there : (total : ℕ) → count_of p size ≡ Ok total → k < total
       → (put_of out 0 (fragment_bytes k total (take size (drop (k * size) p))) ≡ fragment_of p size k out)
       × (put_bytes out 0 (fragment_bytes k total (take size (drop (k * size) p))) ≡ fragment_out p size k out)
   unfolding fragment_of fragment_out

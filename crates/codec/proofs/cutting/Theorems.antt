@@ -8,8 +8,8 @@ use borrow.Author.Tests.{le-ltb}
 use lib.ListN.{get_or, length, take, drop, length-take, length-drop}
 use Rattle.codec.specs.Bytes.{word_at, le16}
 use Rattle.codec.specs.Cutting.{fragment_bytes, fragment_header_of, bodies, cut, Cut}
-use Rattle.codec.specs.declared.cutting.FragmentHeaderRead.TheVariants as read
 use Rattle.codec.proofs.cutting.Laws.{body_at, length_bodies, joined_bodies, length_fragment, cut_bodies, fragment_at_lem}
+use Rattle.std.specs.Prelude.{Ok}
 
 module _ (size : ℕ) (payload : List ℕ) (some : 0 < size) (bytes : 0 < length payload) where
   -- body k has the size, or what is left where that is less
@@ -36,13 +36,13 @@ two_bytes : (n : ℕ) → n ≤ 65535 → n % 256 + 256 * (n / 256 % 256) ≡ n
 two_bytes n h = omega arith
 
 header_reads : (nr total : ℕ) (body : List ℕ) → nr ≤ 65535 → total ≤ 65535
-    → (fragment_header_of (fragment_bytes nr total body) ≡ read.Header (record { fragment_nr = nr; total_fragments = total })) × (drop 4 (fragment_bytes nr total body) ≡ body)
+    → (fragment_header_of (fragment_bytes nr total body) ≡ Ok (record { fragment_nr = nr; total_fragments = total })) × (drop 4 (fragment_bytes nr total body) ≡ body)
 unfolding fragment_header_of fragment_bytes le16 word_at
 header_reads nr total body h h' = (rw (le-ltb (length (fragment_bytes nr total body)) 4 (omega (arith, length_fragment nr total body)), two_bytes nr h, two_bytes total h'), refl)
 
 -- fragment k of a cut reads as number k of that total, with body k behind the header
 pub fragment_reads : (size : ℕ) (payload : List ℕ) → 0 < size → (k : ℕ) → k < length (cut size payload) → length (cut size payload) ≤ 65535
-    → (fragment_header_of (get_or (cut size payload) k []) ≡ read.Header (record { fragment_nr = k; total_fragments = length (bodies size payload) }))
+    → (fragment_header_of (get_or (cut size payload) k []) ≡ Ok (record { fragment_nr = k; total_fragments = length (bodies size payload) }))
     × (drop 4 (get_or (cut size payload) k []) ≡ get_or (bodies size payload) k [])
 fragment_reads size payload some k below few =
     let n = cut_bodies size payload in

@@ -1,7 +1,7 @@
--- Laws of failures: what holds where there is none, what each one says, and the refusal under its number.
-use Prim.Native.Nat.{ℕ, ◌+◌, ◌≤◌, ◌<◌}
+-- Laws of failures: what each one says, what holds where there is none, and where a submessage ends or why it is refused.
+use Prim.Native.Nat.{ℕ, ◌+◌, ◌-◌, ◌≤◌, ◌<◌}
 use mathlib.Core.Path.{◌≡◌, refl, sym, ◌∙◌, ap}
-use mathlib.Core.Bool.{true, false, cond}
+use mathlib.Core.Bool.{true, false}
 use mathlib.Core.List.{List}
 use native.Mathlib.Decide.{dec_le, ℕ_discrete}
 use native.Mathlib.Nat.{lt_of_not-le}
@@ -12,28 +12,28 @@ use lib.ListN.{get_or, length}
 use Rattle.codec.specs.Answers.{number_in, parsed_answer}
 use Rattle.codec.specs.Bytes.{word_at}
 use Rattle.codec.specs.Layouts.{least_of, layout_at, create_at, create_of, status_at, status_of}
-use Rattle.codec.specs.Reading.{payload_at, read_at, failure_at, items_at}
+use Rattle.codec.specs.Reading.{payload_at, read_at, failure_at, end_of, end_at, items_at}
 use Rattle.codec.specs.Refusals.{number_of}
 use Rattle.codec.specs.Submessages.{kind_of, code_of}
 use Rattle.codec.specs.declared.header.MessageHeader.{MessageHeader}
-use Rattle.codec.specs.declared.layouts.Parsed.{Parsed}
-use Rattle.codec.specs.declared.layouts.Parsed.TheVariants.{Sub, Refused}
 use Rattle.codec.specs.declared.refusals.Refusal.{Refusal}
 use Rattle.codec.specs.declared.refusals.Refusal.TheVariants.{BufferTooShort, UnknownSubmessageId, UnknownObjectKind, UnknownStatusCode, PayloadLengthMismatch}
-use Rattle.codec.specs.declared.submessages.KindRead.{KindRead}
-use Rattle.codec.specs.declared.submessages.KindRead.TheVariants as kind-read
-use Rattle.codec.specs.declared.submessages.CodeRead.{CodeRead}
-use Rattle.codec.specs.declared.submessages.CodeRead.TheVariants as code-read
 use Rattle.codec.proofs.Either.{either}
 use Rattle.codec.proofs.layouts.Laws.{enough, least_rest}
-use Rattle.codec.proofs.reading.Laws.{payload_cut, payload_unlisted, payload_under, payload_laid, payload_ends, read_payload, read_short, Ends, counted, counted_sub}
+use Rattle.codec.proofs.reading.Laws.{payload_cut, payload_unlisted, payload_under, payload_laid, payload_ends, read_payload, read_short, read_placed, Ends, counted, counted_sub}
 use Rattle.codec.proofs.submessages.Laws.{KindIs, kind_is, CodeIs, code_is}
+use Rattle.std.specs.Prelude.{Err, Ok, Result}
+use Rattle.codec.specs.declared.layouts.Cursor.{Cursor}
+use Rattle.codec.specs.declared.submessages.ObjectKind.{ObjectKind}
+use Rattle.codec.specs.declared.layouts.Span.{Span}
+use Rattle.codec.specs.declared.submessages.StatusCode.{StatusCode}
+use Rattle.codec.specs.declared.submessages.Submessage.{Submessage}
 
 -- the number of an answer, and equal answers have equal numbers
-abbrev pub number : Parsed → ℕ
+abbrev pub number : Result (Submessage × Span × Cursor) Refusal → ℕ
 number q = number_in (parsed_answer q)
 
-pub same_number : {q r : Parsed} → q ≡ r → number q ≡ number r
+pub same_number : {q r : Result (Submessage × Span × Cursor) Refusal} → q ≡ r → number q ≡ number r
 same_number e = ap number e
 
 -- ---- what a failure says: one for each rule, with what it found
@@ -45,18 +45,18 @@ pub data Failure (s : List ℕ) (id p len : ℕ) : Refusal → Type 0 where
   kind : p + len ≤ length s → 5 ≤ len → id ≡ 1 → Failure s id p len (UnknownObjectKind (get_or s (p + 2) 0))
   code : p + len ≤ length s → 3 ≤ len → id ≡ 5 → Failure s id p len (UnknownStatusCode (get_or s (p + 2) 0))
 
-abbrev pub FailureIf : List ℕ → ℕ → ℕ → ℕ → Parsed → Type 0
-FailureIf s id p len (Sub m x c) = Unit
-FailureIf s id p len (Refused r) = Failure s id p len r
+abbrev pub FailureIf : List ℕ → ℕ → ℕ → ℕ → Result (Submessage × Span × Cursor) Refusal → Type 0
+FailureIf s id p len (Ok (m, x, c)) = Unit
+FailureIf s id p len (Err r) = Failure s id p len r
 
 module _ (s : List ℕ) (p len : ℕ) (room : p + len ≤ length s) where
-  create_failure : (id : ℕ) → id ≡ 1 → 5 ≤ len → (k : KindRead) → KindIs (get_or s (p + 2) 0) k → FailureIf s id p len (create_of s p len k)
-  create_failure id e h (kind-read.Kind k) w = tt
-  create_failure id e h (kind-read.Refused r) w = rw w (kind room h e)
+  create_failure : (id : ℕ) → id ≡ 1 → 5 ≤ len → (k : Result ObjectKind Refusal) → KindIs (get_or s (p + 2) 0) k → FailureIf s id p len (create_of s p len k)
+  create_failure id e h (Ok k) w = tt
+  create_failure id e h (Err r) w = rw w (kind room h e)
 
-  status_failure : (id : ℕ) → id ≡ 5 → 3 ≤ len → (k : CodeRead) → CodeIs (get_or s (p + 2) 0) k → FailureIf s id p len (status_of s p len k)
-  status_failure id e h (code-read.Code k) w = tt
-  status_failure id e h (code-read.Refused r) w = rw w (code room h e)
+  status_failure : (id : ℕ) → id ≡ 5 → 3 ≤ len → (k : Result StatusCode Refusal) → CodeIs (get_or s (p + 2) 0) k → FailureIf s id p len (status_of s p len k)
+  status_failure id e h (Ok k) w = tt
+  status_failure id e h (Err r) w = rw w (code room h e)
 
   layout_failure : (id : ℕ) → least_of id ≤ len → FailureIf s id p len (layout_at s id p len)
   unfolding layout_at create_at status_at least_of
@@ -85,56 +85,10 @@ payload_failure s id p len =
     either P (eqb (least_of id) 255) _ _ (λ e. unknown room (eqb-true (least_of id) 255 e)) (λ _.
     either P (ltb len (least_of id)) _ _ (λ k. short room (ltb-true len (least_of id) k)) (λ k. layout_failure s p len room id (ltb-false len (least_of id) k))))
 
-pub read_failure : (s : List ℕ) (at : ℕ) → FailureIf s (get_or s at 0) (at + 4) (word_at s (at + 2)) (read_at s at)
-read_failure s at =
-    elim (dec_le (at + 4) (length s)) [
-      | yes h ↦ rw (read_payload s at (get_or s at 0) (word_at s (at + 2)) h refl refl) (payload_failure s (get_or s at 0) (at + 4) (word_at s (at + 2)))
-      | no h ↦ rw (← read_short s at (lt_of_not-le h)) (cut (omega (arith, lt_of_not-le h)))
-    ]
-
--- ---- a number is not 0, and names its refusal
-
-pub failure_some : {s : List ℕ} {id p len : ℕ} {r : Refusal} → Failure s id p len r → 0 < number_of r
-failure_some (cut h) = omega arith
-failure_some (unknown h e) = omega arith
-failure_some (short h k) = omega arith
-failure_some (kind h k e) = omega arith
-failure_some (code h k e) = omega arith
-
--- the refusal of the submessage at a place under a number, as `refusal_at` gives it
-abbrev pub refusal_by : List ℕ → ℕ → ℕ → Refusal
-refusal_by s at n =
-    cond (eqb n 1) BufferTooShort
-    (cond (eqb n 2) (UnknownSubmessageId (get_or s at 0))
-    (cond (eqb n 3) (UnknownObjectKind (get_or s (at + 4 + 2) 0))
-    (cond (eqb n 4) (UnknownStatusCode (get_or s (at + 4 + 2) 0))
-    PayloadLengthMismatch)))
-
-pub record Named (s : List ℕ) (at n : ℕ) : Type 0 where
-  pub is : Refused (refusal_by s at n) ≡ read_at s at
-  pub head : 1 < n → at + 4 ≤ length s
-  pub mark : 2 < n → n < 5 → at + 4 + 3 ≤ length s
-
-module _ (s : List ℕ) (at : ℕ) where
-  named_refusal : (r : Refusal) → Failure s (get_or s at 0) (at + 4) (word_at s (at + 2)) r → read_at s at ≡ Refused r → Named s at (number_of r)
-  named_refusal r (cut h) e = record { is = sym e; head = λ k. absurd (omega arith); mark = λ k l. absurd (omega arith) }
-  named_refusal r (unknown h k) e = record { is = sym e; head = λ k. omega (arith, h); mark = λ k l. absurd (omega arith) }
-  named_refusal r (short h k) e = record { is = sym e; head = λ k. omega (arith, h); mark = λ k l. absurd (omega arith) }
-  named_refusal r (kind h k l) e = record { is = sym e; head = λ k. omega (arith, h); mark = λ a b. omega (arith, h, k) }
-  named_refusal r (code h k l) e = record { is = sym e; head = λ k. omega (arith, h); mark = λ a b. omega (arith, h, k) }
-
-  named_answer_lem : (q : Parsed) → FailureIf s (get_or s at 0) (at + 4) (word_at s (at + 2)) q → read_at s at ≡ q → 0 < number q → Named s at (number q)
-  named_answer_lem (Sub m x c) f e h = absurd (omega arith)
-  named_answer_lem (Refused r) f e h = named_refusal r f e
-
-  pub named : (n : ℕ) → failure_at s at ≡ n → 0 < n → Named s at n
-  unfolding failure_at
-  named n e h = rw e at (named_answer_lem (read_at s at) (read_failure s at) refl (rw (← e) at h))
-
 -- ---- where there is none
 
 -- the whole payload is there and long enough, and the id's layout says what was read
-pub record Met (s : List ℕ) (id p len : ℕ) (q : Parsed) : Type 0 where
+pub record Met (s : List ℕ) (id p len : ℕ) (q : Result (Submessage × Span × Cursor) Refusal) : Type 0 where
   pub room : p + len ≤ length s
   pub least : least_of id ≤ len
   pub laid : layout_at s id p len ≡ q
@@ -163,12 +117,16 @@ module _ (s : List ℕ) (id p len : ℕ) where
   only_marks r (kind h k e) room listed least a b = a e
   only_marks r (code h k e) room listed least a b = b e
 
-  passes : (q : Parsed) → FailureIf s id p len q → p + len ≤ length s → (least_of id ≡ 255 → ⊥) → least_of id ≤ len → (id ≡ 1 → ⊥) → (id ≡ 5 → ⊥) → 0 ≡ number q
-  passes (Sub m x c) f room listed least a b = refl
-  passes (Refused r) f room listed least a b = absurd (only_marks r f room listed least a b)
+  passes : (q : Result (Submessage × Span × Cursor) Refusal) → FailureIf s id p len q → Ends (p + len) q → p + len ≤ length s → (least_of id ≡ 255 → ⊥) → least_of id ≤ len → (id ≡ 1 → ⊥) → (id ≡ 5 → ⊥)
+      → Ok (p + len) ≡ end_of q
+  passes (Ok (m, x, c)) f ends room listed least a b = rw ends.0
+  passes (Err r) f ends room listed least a b = absurd (only_marks r f room listed least a b)
 
-  pub unmarked : p + len ≤ length s → (least_of id ≡ 255 → ⊥) → least_of id ≤ len → (id ≡ 1 → ⊥) → (id ≡ 5 → ⊥) → 0 ≡ number (payload_at s id p len)
-  unmarked = passes (payload_at s id p len) (payload_failure s id p len)
+  pub unmarked : p + len ≤ length s → (least_of id ≡ 255 → ⊥) → least_of id ≤ len → (id ≡ 1 → ⊥) → (id ≡ 5 → ⊥) → Ok (p + len) ≡ end_of (payload_at s id p len)
+  unmarked room = passes (payload_at s id p len) (payload_failure s id p len) (payload_ends s id p len room) room
+
+pub same_end : {q r : Result (Submessage × Span × Cursor) Refusal} → q ≡ r → end_of q ≡ end_of r
+same_end e = ap end_of e
 
 abbrev pub MetAt : List ℕ → ℕ → Type 0
 MetAt s at = Met s (get_or s at 0) (at + 4) (word_at s (at + 2)) (read_at s at)
@@ -184,18 +142,53 @@ module _ (s : List ℕ) (at : ℕ) where
             rw k (payload_met s (get_or s at 0) (at + 4) (word_at s (at + 2)) (same_number (sym k) ∙ e))
       ]
 
-  -- the count goes on behind the payload
-  counted_answer_lem : (h : MessageHeader) (n e : ℕ) (q : Parsed) → at < length s → read_at s at ≡ q → FailureIf s (get_or s at 0) (at + 4) (word_at s (at + 2)) q
-      → number q ≡ 0 → Ends e q → counted h n (items_at s at) ≡ counted h (n + 1) (items_at s e)
-  counted_answer_lem h n e (Sub m x c) k d f z ends = counted_sub h s at n m x c k d ∙ rw ends.0
-  counted_answer_lem h n e (Refused r) k d f z ends = absurd (omega (arith, z, failure_some f))
+-- ---- where a submessage ends, as `end_at` gives it
 
-  pub counted_met : (h : MessageHeader) (n : ℕ) → at < length s → failure_at s at ≡ 0
-      → counted h n (items_at s at) ≡ counted h (n + 1) (items_at s (at + 4 + word_at s (at + 2)))
+-- one that has an end was read, and ends there
+pub record Ended (s : List ℕ) (at e : ℕ) : Type 0 where
+  pub says : Submessage
+  pub span : Span
+  pub behind : Cursor
+  pub read : read_at s at ≡ Ok (says, span, behind)
+  pub end : behind.at ≡ e
+  pub none : failure_at s at ≡ 0
+  pub ahead : at + 4 ≤ e
+  pub within : e ≤ length s
+  pub least : least_of (get_or s at 0) ≤ e - (at + 4)
+  pub laid : layout_at s (get_or s at 0) (at + 4) (e - (at + 4)) ≡ read_at s at
+
+module _ (s : List ℕ) (at e : ℕ) where
+  ended_answer : (q : Result (Submessage × Span × Cursor) Refusal) → read_at s at ≡ q → end_of q ≡ Ok e → Ended s at e
   unfolding failure_at
-  counted_met h n k e =
-      let id = get_or s at 0 in
-      let len = word_at s (at + 2) in
-      let met = read_met e in
-      let ends : Ends (at + 4 + len) (read_at s at) = rw (read_payload s at id len (omega (arith, met.room)) refl refl) (payload_ends s id (at + 4) len met.room) in
-      counted_answer_lem h n (at + 4 + len) (read_at s at) k refl (read_failure s at) e ends
+  ended_answer (Ok (m, x, c)) r h =
+      let same : ◌≡◌ {A = ℕ} c.at e = cc in
+      let none : failure_at s at ≡ 0 = rw r in
+      let met = read_met s at none in
+      let there = read_placed s at m x c r in
+      let ends : Ends (at + 4 + word_at s (at + 2)) (read_at s at) = rw (read_payload s at (get_or s at 0) (word_at s (at + 2)) (omega (arith, met.room)) refl refl) (payload_ends s (get_or s at 0) (at + 4) (word_at s (at + 2)) met.room) in
+      let stands : Ends (at + 4 + word_at s (at + 2)) (Ok (m, x, c)) = rw r at ends in
+      let len : e - (at + 4) ≡ word_at s (at + 2) = omega (arith, stands.0) in
+      record { says = m; span = x; behind = c; read = r; end = same; none = none; ahead = omega (arith, there.ahead); within = omega (arith, there.within); least = rw len met.least; laid = rw len met.laid }
+  ended_answer (Err r) d h = absurd (cc)
+
+  pub ended : end_at s at ≡ Ok e → Ended s at e
+  unfolding end_at
+  ended h = ended_answer (read_at s at) refl h
+
+-- one that has none was refused, and its failure has the refusal's number
+module _ (s : List ℕ) (at : ℕ) (r : Refusal) where
+  refused_answer : (q : Result (Submessage × Span × Cursor) Refusal) → read_at s at ≡ q → end_of q ≡ Err r → (read_at s at ≡ Err r) × (failure_at s at ≡ number_of r)
+  unfolding failure_at
+  refused_answer (Ok (m, x, c)) d h = absurd (cc)
+  refused_answer (Err w) d h = let same : ◌≡◌ {A = Refusal} w r = cc in (d ∙ ap Err same, rw (d, same))
+
+  pub refused_end : end_at s at ≡ Err r → (read_at s at ≡ Err r) × (failure_at s at ≡ number_of r)
+  unfolding end_at
+  refused_end h = refused_answer (read_at s at) refl h
+
+-- the count goes on behind the payload
+pub counted_past : (h : MessageHeader) (s : List ℕ) (at n e : ℕ) → at < length s → end_at s at ≡ Ok e
+    → counted h n (items_at s at) ≡ counted h (n + 1) (items_at s e)
+counted_past h s at n e k d =
+    let w = ended s at e d in
+    counted_sub h s at n w.says w.span w.behind k w.read ∙ rw w.end

@@ -12,41 +12,40 @@ use Rattle.codec.specs.declared.refusals.Refusal.{Refusal}
 use Rattle.codec.specs.declared.refusals.Refusal.TheVariants.{BufferTooShort}
 use Rattle.codec.specs.declared.header.MessageHeader.{MessageHeader}
 use Rattle.codec.specs.declared.header.SubmessageHeader.{SubmessageHeader}
-use Rattle.codec.specs.declared.header.HeaderRead.TheVariants as header-read
-use Rattle.codec.specs.declared.header.SubmessageHeaderRead.TheVariants as sub-header-read
+use Rattle.std.specs.Prelude.{Err, Ok}
 
-pub header_short : (s : List ℕ) → length s < 4 → header-read.Refused BufferTooShort ≡ header_read s
+pub header_short : (s : List ℕ) → length s < 4 → Err BufferTooShort ≡ header_read s
 unfolding header_read
 header_short s h = rw (lt-ltb (length s) 4 h)
 
-pub header_there : (s : List ℕ) → 4 ≤ length s → header-read.Header (header_of s) ≡ header_read s
+pub header_there : (s : List ℕ) → 4 ≤ length s → Ok (header_of s) ≡ header_read s
 unfolding header_read
 header_there s h = rw (le-ltb (length s) 4 h)
 
-pub sub_header_short : (s : List ℕ) (at : ℕ) → length s < at + 4 → sub-header-read.Refused BufferTooShort ≡ sub_header_read s at
+pub sub_header_short : (s : List ℕ) (at : ℕ) → length s < at + 4 → Err BufferTooShort ≡ sub_header_read s at
 unfolding sub_header_read
 sub_header_short s at h = rw (lt-ltb (length s) (at + 4) h)
 
-pub sub_header_there : (s : List ℕ) (at : ℕ) → at + 4 ≤ length s → sub-header-read.Header (sub_header_of s at) ≡ sub_header_read s at
+pub sub_header_there : (s : List ℕ) (at : ℕ) → at + 4 ≤ length s → Ok (sub_header_of s at) ≡ sub_header_read s at
 unfolding sub_header_read
 sub_header_there s at h = rw (le-ltb (length s) (at + 4) h)
 
 -- an answer tells where the bytes end, and what it is
-pub header_is : (s : List ℕ) (h : MessageHeader) → header_read s ≡ header-read.Header h → (4 ≤ length s) × (h ≡ header_of s)
+pub header_is : (s : List ℕ) (h : MessageHeader) → header_read s ≡ Ok h → (4 ≤ length s) × (h ≡ header_of s)
 header_is s h e =
     elim (dec_le 4 (length s)) [
       | yes k ↦ (k, cc (header_there s k))
       | no k ↦ let z : ◌≡◌ {A = ℕ} 0 1 = cc (header_short s (lt_of_not-le k)) in absurd (omega arith)
     ]
 
-pub header_none : (s : List ℕ) (r : Refusal) → header_read s ≡ header-read.Refused r → (length s < 4) × (r ≡ BufferTooShort)
+pub header_none : (s : List ℕ) (r : Refusal) → header_read s ≡ Err r → (length s < 4) × (r ≡ BufferTooShort)
 header_none s r e =
     elim (dec_le 4 (length s)) [
       | yes k ↦ let z : ◌≡◌ {A = ℕ} 0 1 = cc (header_there s k) in absurd (omega arith)
       | no k ↦ (lt_of_not-le k, cc (header_short s (lt_of_not-le k)))
     ]
 
-pub sub_header_is : (s : List ℕ) (at : ℕ) (h : SubmessageHeader) → sub_header_read s at ≡ sub-header-read.Header h
+pub sub_header_is : (s : List ℕ) (at : ℕ) (h : SubmessageHeader) → sub_header_read s at ≡ Ok h
     → (at + 4 ≤ length s) × (h ≡ sub_header_of s at)
 sub_header_is s at h e =
     elim (dec_le (at + 4) (length s)) [

@@ -8,8 +8,8 @@ use mathlib.Core.Path.{◌≡◌}
 use mathlib.Core.List.{List}
 use borrow.Author.Tests.{ne_eqb}
 use Rattle.codec.specs.Layouts.{least_table, least_of, layout_at}
-use Rattle.codec.specs.declared.layouts.Parsed.TheVariants.{Refused}
 use Rattle.codec.specs.declared.refusals.Refusal.TheVariants.{UnknownSubmessageId}
+use Rattle.std.specs.Prelude.{Err}
 
 -- a payload that is long enough for its id, where the id is known
 pub enough : (id k len : ℕ) → id ≡ k → least_of id ≤ len → least_of k ≤ len
@@ -17,7 +17,7 @@ enough id k len e h = rw e at h
 
 -- an id that is none of the ten is refused
 pub unlisted : (s : List ℕ) (id p len : ℕ) → (id ≡ 0 → ⊥) → (id ≡ 1 → ⊥) → (id ≡ 2 → ⊥) → (id ≡ 5 → ⊥) → (id ≡ 7 → ⊥)
-    → (id ≡ 8 → ⊥) → (id ≡ 9 → ⊥) → (id ≡ 13 → ⊥) → (id ≡ 14 → ⊥) → (id ≡ 15 → ⊥) → Refused (UnknownSubmessageId id) ≡ layout_at s id p len
+    → (id ≡ 8 → ⊥) → (id ≡ 9 → ⊥) → (id ≡ 13 → ⊥) → (id ≡ 14 → ⊥) → (id ≡ 15 → ⊥) → Err (UnknownSubmessageId id) ≡ layout_at s id p len
 unfolding layout_at
 unlisted s id p len a b c d e f g h i j =
     rw (ne_eqb id 0 a, ne_eqb id 1 b, ne_eqb id 2 c, ne_eqb id 5 d, ne_eqb id 7 e, ne_eqb id 8 f, ne_eqb id 9 g, ne_eqb id 13 h, ne_eqb id 14 i, ne_eqb id 15 j)

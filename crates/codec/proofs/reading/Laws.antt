@@ -16,37 +16,31 @@ use Rattle.codec.specs.Layouts.{least_of, layout_at, create_at, create_of, statu
 use Rattle.codec.specs.Submessages.{kind_of, code_of}
 use Rattle.codec.specs.Reading.{payload_at, read_at, behind, Item, Items, items, stopped, before, onward, items_in, items_at, under, checked_of, count_at, message_of, check_of}
 use Rattle.codec.specs.declared.header.MessageHeader.{MessageHeader}
-use Rattle.codec.specs.declared.header.SubmessageHeaderRead.{SubmessageHeaderRead}
-use Rattle.codec.specs.declared.header.SubmessageHeaderRead.TheVariants as sub-header-read
 use Rattle.codec.specs.declared.layouts.Span.{Span}
 use Rattle.codec.specs.declared.layouts.Cursor.{Cursor}
-use Rattle.codec.specs.declared.layouts.Parsed.{Parsed}
-use Rattle.codec.specs.declared.layouts.Parsed.TheVariants.{Sub, Refused}
-use Rattle.codec.specs.declared.reading.Checked.{Checked}
-use Rattle.codec.specs.declared.reading.Checked.TheVariants as checked
 use Rattle.codec.specs.declared.refusals.Refusal.{Refusal}
 use Rattle.codec.specs.declared.refusals.Refusal.TheVariants.{BufferTooShort, UnknownSubmessageId, PayloadLengthMismatch}
-use Rattle.codec.specs.declared.submessages.KindRead.{KindRead}
-use Rattle.codec.specs.declared.submessages.KindRead.TheVariants as kind-read
-use Rattle.codec.specs.declared.submessages.CodeRead.{CodeRead}
-use Rattle.codec.specs.declared.submessages.CodeRead.TheVariants as code-read
 use Rattle.codec.specs.declared.submessages.Submessage.{Submessage}
 use Rattle.codec.proofs.Either.{either}
 use Rattle.codec.proofs.header.Laws.{sub_header_there, sub_header_short}
 use Rattle.codec.proofs.layouts.Laws.{enough}
+use Rattle.std.specs.Prelude.{Err, Ok, Result}
+use Rattle.codec.specs.declared.submessages.ObjectKind.{ObjectKind}
+use Rattle.codec.specs.declared.submessages.StatusCode.{StatusCode}
+use Rattle.codec.specs.declared.header.SubmessageHeader.{SubmessageHeader}
 
 -- ---- a payload: its four answers
 
 module _ (s : List ℕ) (id p len : ℕ) where
-  pub payload_cut : length s < p + len → Refused BufferTooShort ≡ payload_at s id p len
+  pub payload_cut : length s < p + len → Err BufferTooShort ≡ payload_at s id p len
   unfolding payload_at
   payload_cut h = rw (lt-ltb (length s) (p + len) h)
 
-  pub payload_unlisted : p + len ≤ length s → least_of id ≡ 255 → Refused (UnknownSubmessageId id) ≡ payload_at s id p len
+  pub payload_unlisted : p + len ≤ length s → least_of id ≡ 255 → Err (UnknownSubmessageId id) ≡ payload_at s id p len
   unfolding payload_at
   payload_unlisted h e = rw (le-ltb (length s) (p + len) h, eq-eqb (least_of id) 255 e)
 
-  pub payload_under : p + len ≤ length s → (least_of id ≡ 255 → ⊥) → len < least_of id → Refused PayloadLengthMismatch ≡ payload_at s id p len
+  pub payload_under : p + len ≤ length s → (least_of id ≡ 255 → ⊥) → len < least_of id → Err PayloadLengthMismatch ≡ payload_at s id p len
   unfolding payload_at
   payload_under h e k = rw (le-ltb (length s) (p + len) h, ne_eqb (least_of id) 255 e, lt-ltb len (least_of id) k)
 
@@ -56,18 +50,18 @@ module _ (s : List ℕ) (id p len : ℕ) where
 
 -- ---- a submessage ends where its payload does, and so does its variable part
 
-abbrev pub Ends : ℕ → Parsed → Type 0
-Ends e (Sub m x c) = (c.at ≡ e) × (x.start + x.len ≡ e)
-Ends e (Refused r) = Unit
+abbrev pub Ends : ℕ → Result (Submessage × Span × Cursor) Refusal → Type 0
+Ends e (Ok (m, x, c)) = (c.at ≡ e) × (x.start + x.len ≡ e)
+Ends e (Err r) = Unit
 
 module _ (s : List ℕ) (p len : ℕ) where
-  ends_create : 5 ≤ len → (k : KindRead) → Ends (p + len) (create_of s p len k)
-  ends_create h (kind-read.Kind k) = (refl, omega arith)
-  ends_create h (kind-read.Refused r) = tt
+  ends_create : 5 ≤ len → (k : Result ObjectKind Refusal) → Ends (p + len) (create_of s p len k)
+  ends_create h (Ok k) = (refl, omega arith)
+  ends_create h (Err r) = tt
 
-  ends_status : (k : CodeRead) → Ends (p + len) (status_of s p len k)
-  ends_status (code-read.Code k) = (refl, omega arith)
-  ends_status (code-read.Refused r) = tt
+  ends_status : (k : Result StatusCode Refusal) → Ends (p + len) (status_of s p len k)
+  ends_status (Ok k) = (refl, omega arith)
+  ends_status (Err r) = tt
 
   ends_layout : (id : ℕ) → least_of id ≤ len → Ends (p + len) (layout_at s id p len)
   unfolding layout_at least_of create_at status_at
@@ -92,7 +86,7 @@ pub record Placed (s : List ℕ) (at : ℕ) (x : Span) (c : Cursor) : Type 0 whe
   pub closed : x.start + x.len ≡ c.at
 
 placed : (s : List ℕ) (at p len : ℕ) (m : Submessage) (x : Span) (c : Cursor) → p ≡ at + 4 → p + len ≤ length s
-    → Ends (p + len) (Sub m x c) → Placed s at x c
+    → Ends (p + len) (Ok (m, x, c)) → Placed s at x c
 placed s at p len m x c e h d = record { ahead = omega (arith, d.0); within = omega (arith, d.0); closed = omega (arith, d.0, d.1) }
 
 -- whatever a payload says, it ends where the payload does
@@ -105,7 +99,7 @@ module _ (s : List ℕ) (id p len : ℕ) where
       (either E (eqb (least_of id) 255) _ _ (λ _. tt) (λ _.
       either E (ltb len (least_of id)) _ _ (λ _. tt) (λ k. ends_layout s p len id (ltb-false len (least_of id) k))))
 
-  pub payload_placed : (m : Submessage) (x : Span) (c : Cursor) → payload_at s id p len ≡ Sub m x c → (p + len ≤ length s) × (Ends (p + len) (Sub m x c))
+  pub payload_placed : (m : Submessage) (x : Span) (c : Cursor) → payload_at s id p len ≡ Ok (m, x, c) → (p + len ≤ length s) × (Ends (p + len) (Ok (m, x, c)))
   payload_placed m x c e =
       elim (dec_le (p + len) (length s)) [
         | yes h ↦ (h, rw e at (payload_ends h))
@@ -119,26 +113,26 @@ pub read_payload : (s : List ℕ) (at id len : ℕ) → at + 4 ≤ length s → 
 unfolding read_at sub_header_of
 read_payload s at id len h i l = rw (← sub_header_there s at h, i, l)
 
-pub read_short : (s : List ℕ) (at : ℕ) → length s < at + 4 → Refused BufferTooShort ≡ read_at s at
+pub read_short : (s : List ℕ) (at : ℕ) → length s < at + 4 → Err BufferTooShort ≡ read_at s at
 unfolding read_at
 read_short s at h = rw (← sub_header_short s at h)
 
-read_behind : (s : List ℕ) (at : ℕ) (q : SubmessageHeaderRead) → sub_header_read s at ≡ q → (m : Submessage) (x : Span) (c : Cursor)
-    → behind s at q ≡ Sub m x c → Placed s at x c
-read_behind s at (sub-header-read.Header h) e m x c d =
+read_behind : (s : List ℕ) (at : ℕ) (q : Result SubmessageHeader Refusal) → sub_header_read s at ≡ q → (m : Submessage) (x : Span) (c : Cursor)
+    → behind s at q ≡ Ok (m, x, c) → Placed s at x c
+read_behind s at (Ok h) e m x c d =
     let k = payload_placed s h.submessage_id (at + 4) h.length m x c d in
     placed s at (at + 4) h.length m x c refl k.0 k.1
-read_behind s at (sub-header-read.Refused r) e m x c d = let z : ◌≡◌ {A = ℕ} 0 1 = cc in absurd (omega arith)
+read_behind s at (Err r) e m x c d = let z : ◌≡◌ {A = ℕ} 0 1 = cc in absurd (omega arith)
 
-pub read_placed : (s : List ℕ) (at : ℕ) (m : Submessage) (x : Span) (c : Cursor) → read_at s at ≡ Sub m x c → Placed s at x c
+pub read_placed : (s : List ℕ) (at : ℕ) (m : Submessage) (x : Span) (c : Cursor) → read_at s at ≡ Ok (m, x, c) → Placed s at x c
 unfolding read_at
 read_placed s at m x c e = read_behind s at (sub_header_read s at) refl m x c e
 
 -- ---- the submessages of a datagram, one at a time
 
-onward_same : (s : List ℕ) (at : ℕ) (f g : ℕ → Items) → ((n : ℕ) → at < n → f n ≡ g n) → (q : Parsed) → read_at s at ≡ q → onward q f ≡ onward q g
-onward_same s at f g same (Sub m x c) e = rw (same c.at (omega (arith, (read_placed s at m x c e).ahead)))
-onward_same s at f g same (Refused r) e = refl
+onward_same : (s : List ℕ) (at : ℕ) (f g : ℕ → Items) → ((n : ℕ) → at < n → f n ≡ g n) → (q : Result (Submessage × Span × Cursor) Refusal) → read_at s at ≡ q → onward q f ≡ onward q g
+onward_same s at f g same (Ok (m, x, c)) e = rw (same c.at (omega (arith, (read_placed s at m x c e).ahead)))
+onward_same s at f g same (Err r) e = refl
 
 -- any count that is large enough gives the same
 fuel : (s : List ℕ) (f g at : ℕ) → length s - at ≤ f → length s - at ≤ g → items_in f s at ≡ items_in g s at
@@ -168,9 +162,9 @@ items_more s at h =
 
 -- ---- counting them
 
-abbrev pub counted : MessageHeader → ℕ → Items → Checked
-counted h n (items xs) = checked.Message h (n + length xs)
-counted h n (stopped r) = checked.Refused r
+abbrev pub counted : MessageHeader → ℕ → Items → Result (MessageHeader × ℕ) Refusal
+counted h n (items xs) = Ok (h, (n + length xs))
+counted h n (stopped r) = Err r
 
 pub counted_before : (h : MessageHeader) (n : ℕ) (x : Item) (i : Items) → counted h n (before x i) ≡ counted h (n + 1) i
 counted_before h n x (items xs) = let e : n + suc (length xs) ≡ n + 1 + length xs = omega arith in rw e
@@ -181,20 +175,20 @@ counted_none h (items xs) = let e : 0 + length xs ≡ length xs = omega arith in
 counted_none h (stopped r) = refl
 
 -- a turn of the count: a submessage more, or the refusal of the whole
-pub counted_sub : (h : MessageHeader) (s : List ℕ) (at n : ℕ) (m : Submessage) (x : Span) (c : Cursor) → at < length s → read_at s at ≡ Sub m x c
+pub counted_sub : (h : MessageHeader) (s : List ℕ) (at n : ℕ) (m : Submessage) (x : Span) (c : Cursor) → at < length s → read_at s at ≡ Ok (m, x, c)
     → counted h n (items_at s at) ≡ counted h (n + 1) (items_at s c.at)
 counted_sub h s at n m x c k e = rw (items_more s at k, e) (counted_before h n _ (items_at s c.at))
 
-pub counted_stopped : (h : MessageHeader) (s : List ℕ) (at n : ℕ) (r : Refusal) → at < length s → read_at s at ≡ Refused r
-    → counted h n (items_at s at) ≡ checked.Refused r
+pub counted_stopped : (h : MessageHeader) (s : List ℕ) (at n : ℕ) (r : Refusal) → at < length s → read_at s at ≡ Err r
+    → counted h n (items_at s at) ≡ Err r
 counted_stopped h s at n r k e = rw (items_more s at k, e)
 
-pub counted_end : (h : MessageHeader) (s : List ℕ) (at n : ℕ) → length s ≤ at → counted h n (items_at s at) ≡ checked.Message h n
+pub counted_end : (h : MessageHeader) (s : List ℕ) (at n : ℕ) → length s ≤ at → counted h n (items_at s at) ≡ Ok (h, n)
 counted_end h s at n k = let e : n + 0 ≡ n = omega arith in rw (items_end s at k, e)
 
 -- ---- the check of a whole datagram
 
-pub check_short : (s : List ℕ) → length s ≤ 4 → checked.Refused BufferTooShort ≡ check_of s
+pub check_short : (s : List ℕ) → length s ≤ 4 → Err BufferTooShort ≡ check_of s
 unfolding check_of message_of
 check_short s h = rw (le-leb (length s) 4 h)
 

@@ -12,21 +12,17 @@ use Rattle.codec.specs.Answers.{gives, refused_as, written_answer, made_answer, 
 use Rattle.codec.specs.Bytes.{put_of, put_bytes}
 use Rattle.codec.specs.Reassembly.{under_need, new_of, insert_check_of, insert_of, inserted_if, has_fragment, is_free, any_of, payload_of, assemble_check, assemble_of, assemble_out, over_limit}
 use Rattle.codec.specs.Inserts.{Store, Piece, insert_into, inserts, Sound, NewSound, InsertsSound, holds_number, AllHeld, SoundTells}
-use Rattle.codec.specs.declared.bytes.Written.TheVariants as written
 use Rattle.codec.specs.declared.reassembly.ReassemblyBuffer.{ReassemblyBuffer}
-use Rattle.codec.specs.declared.reassembly.StoreMade.TheVariants as made-answer
-use Rattle.codec.specs.declared.reassembly.Inserted.{Inserted}
-use Rattle.codec.specs.declared.reassembly.Inserted.TheVariants as inserted
-use Rattle.codec.specs.declared.reassembly.Check.{Check}
-use Rattle.codec.specs.declared.reassembly.Check.TheVariants as check
 use Rattle.codec.specs.declared.refusals.Refusal.TheVariants.{MissingFragments, OutputTooShort, OverLimit}
 use Rattle.codec.proofs.reassembly.Laws.{none_at, any_at, assemble_refused}
 use Rattle.codec.proofs.reassembly.View.{all_held, none_free}
 use Rattle.codec.proofs.reassembly.Inserts.{made, store_good, step, new_good}
+use Rattle.std.specs.Prelude.{Err, Ok, Result}
+use Rattle.codec.specs.declared.refusals.Refusal.{Refusal}
 
 -- ---- the calls make and keep sound stores
 
-new_picks : (t : Bool) (a b : ReassemblyBuffer) → made_answer (cond t (made-answer.Refused OverLimit) (made-answer.Store a)) ≡ gives b
+new_picks : (t : Bool) (a b : ReassemblyBuffer) → made_answer (cond t (Err OverLimit) (Ok a)) ≡ gives b
     → (t ≡ false) × (a ≡ b)
 new_picks false a b e = (refl, cc)
 new_picks true a b e = let z : ◌≡◌ {A = ℕ} 0 1 = cc in absurd (omega arith)
@@ -101,7 +97,7 @@ module _ (st : Store) (sound : Sound st) where
 
   -- ---- what an assembly is checked for
 
-  judged : (t : Bool) → lacking ≡ t → assemble_check st.buffer (length st.slots) st.lengths ≡ cond t (check.Refused MissingFragments) check.Passes
+  judged : (t : Bool) → lacking ≡ t → assemble_check st.buffer (length st.slots) st.lengths ≡ cond t (Err MissingFragments) (Ok tt)
   unfolding assemble_check over_limit
   judged true e =
       rw (store_good st.buffer.total_fragments st.buffer.width sound, sound.within, e, or-true (ltb st.buffer.received_count st.buffer.total_fragments))
@@ -123,7 +119,7 @@ module _ (st : Store) (sound : Sound st) where
   passes e out = rw (judged false e) (refl, refl)
 
   -- what is written where nothing is missing isn't refused as 11
-  put_not_missing : (t : Bool) (n : ℕ) → written_answer (cond t (written.Refused OutputTooShort) (written.Bytes n)) ≡ refused_as 11 0 → ⊥
+  put_not_missing : (t : Bool) (n : ℕ) → written_answer (cond t (Err OutputTooShort) (Ok n)) ≡ refused_as 11 0 → ⊥
   put_not_missing true n e = let z : ◌≡◌ {A = ℕ} 13 11 = cc in omega arith
   put_not_missing false n e = let z : ◌≡◌ {A = ℕ} 0 1 = cc in omega arith
 
@@ -138,24 +134,25 @@ module _ (st : Store) (sound : Sound st) where
 
 -- ---- what an insert answers
 
-held_is : (i : Inserted) (after : ReassemblyBuffer) (all : Bool) → inserted_answer i ≡ gives (after, all) → i ≡ inserted.Held after all
-held_is (inserted.Held b t) after all e =
+held_is : (i : Result (ReassemblyBuffer × Bool) Refusal) (after : ReassemblyBuffer) (all : Bool) → inserted_answer i ≡ gives (after, all) → i ≡ Ok (after, all)
+held_is (Ok (b, t)) after all e =
     let both : ◌≡◌ {A = ReassemblyBuffer × Bool} (b, t) (after, all) = cc in
-    ap (λ (x : ReassemblyBuffer × Bool). inserted.Held x.0 x.1) both
-held_is (inserted.Refused why) after all e = let z : ◌≡◌ {A = ℕ} 0 1 = cc in absurd (omega arith)
+    ap (λ (x : ReassemblyBuffer × Bool). Ok (x.0, x.1)) both
+held_is (Err why) after all e = let z : ◌≡◌ {A = ℕ} 0 1 = cc in absurd (omega arith)
 
-held_picks : (c : Check) (b after : ReassemblyBuffer) (all : Bool)
-    → inserted_if c (inserted.Held b (eqb b.received_count b.total_fragments)) ≡ inserted.Held after all
+held_picks : (c : Result (Unit {0}) Refusal) (b after : ReassemblyBuffer) (all : Bool)
+    → inserted_if c (Ok (b, (eqb b.received_count b.total_fragments))) ≡ Ok (after, all)
     → all ≡ eqb after.received_count after.total_fragments
-held_picks (check.Refused why) b after all e = let z : ◌≡◌ {A = ℕ} 0 1 = cc in absurd (omega arith)
-held_picks check.Passes b after all e =
-    let same : b ≡ after = cc in
-    let told : eqb b.received_count b.total_fragments ≡ all = cc in
+held_picks (Err why) b after all e = let z : ◌≡◌ {A = ℕ} 0 1 = cc in absurd (omega arith)
+held_picks (Ok tt) b after all e =
+    let both : ◌≡◌ {A = ReassemblyBuffer × Bool} (b, eqb b.received_count b.total_fragments) (after, all) = cc in
+    let same : b ≡ after = ap (λ (x : ReassemblyBuffer × Bool). x.0) both in
+    let told : eqb b.received_count b.total_fragments ≡ all = ap (λ (x : ReassemblyBuffer × Bool). x.1) both in
     rw (← same) (sym told)
 
 -- "all there" is said where the count that it leaves is the total
 held_tells : (b : ReassemblyBuffer) (slots lengths : List ℕ) (nr : ℕ) (body : List ℕ) (after : ReassemblyBuffer) (all : Bool)
-    → insert_of b slots lengths nr body ≡ inserted.Held after all → all ≡ eqb after.received_count after.total_fragments
+    → insert_of b slots lengths nr body ≡ Ok (after, all) → all ≡ eqb after.received_count after.total_fragments
 unfolding insert_of
 held_tells b slots lengths nr body after all e = held_picks (insert_check_of b slots lengths nr body) _ after all e
 

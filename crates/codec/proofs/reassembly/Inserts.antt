@@ -12,12 +12,12 @@ use lib.Seq.{length-take-le, get_or-take, get_or-set_same, get_or-set_other, tak
 use Rattle.codec.specs.Bytes.{put_at}
 use Rattle.codec.specs.Reassembly.{under_need, new_lengths, store_over, grown, slot_over, insert_check, insert_check_of, is_past}
 use Rattle.codec.specs.Inserts.{Store, Piece, insert_into, inserts, Slot, free, holds, slots_of, Sound, last_of}
-use Rattle.codec.specs.declared.reassembly.Check.TheVariants as check
 use Rattle.codec.specs.declared.refusals.Refusal.{Refusal}
 use Rattle.codec.specs.declared.refusals.Refusal.TheVariants.{FragmentNumber, StoreFull}
 use Rattle.codec.proofs.bytes.Laws.{length_put}
 use Rattle.codec.proofs.reassembly.Laws.{slot_ends, none_at, need_fits, new_made, insert_refused, insert_held}
 use Rattle.codec.proofs.reassembly.View.{held_most, length_slots, within_set, slots_set, held_set, none_held, all_free, none_past}
+use Rattle.std.specs.Prelude.{Err, Ok}
 
 module _ (total width : ℕ) where
   -- a store of that total and width
@@ -64,7 +64,7 @@ module _ (total width : ℕ) where
     -- it refuses only 10 and 14
     pub check_good : (nr : ℕ) (body : List ℕ) (t : Bool) → ltb nr total ≡ t
         → insert_check_of (made received slots lengths).buffer slots lengths nr body
-        ≡ cond t (cond (ltb width (length body)) (check.Refused StoreFull) check.Passes) (check.Refused FragmentNumber)
+        ≡ cond t (cond (ltb width (length body)) (Err StoreFull) (Ok tt)) (Err FragmentNumber)
     unfolding insert_check_of insert_check
     check_good nr body true e = rw (store_good, e, slot_good nr (ltb-true nr total e))
     check_good nr body false e = rw (store_good, e)
@@ -80,7 +80,7 @@ module _ (total width : ℕ) where
 
   module _ {received : ℕ} {slots lengths : List ℕ} (good : Good received slots lengths) (p : Piece) where
     -- a refusal leaves all as it was
-    refuses : (why : Refusal) → insert_check_of (made received slots lengths).buffer slots lengths p.nr p.body ≡ check.Refused why
+    refuses : (why : Refusal) → insert_check_of (made received slots lengths).buffer slots lengths p.nr p.body ≡ Err why
         → (ltb p.nr total && not (ltb width (length p.body))) ≡ false → After received slots lengths p
     unfolding insert_into
     refuses why e out =
@@ -95,7 +95,7 @@ module _ (total width : ℕ) where
         }
 
     -- the body is kept
-    keeps : insert_check_of (made received slots lengths).buffer slots lengths p.nr p.body ≡ check.Passes → p.nr < total → length p.body ≤ width
+    keeps : insert_check_of (made received slots lengths).buffer slots lengths p.nr p.body ≡ (Ok tt) → p.nr < total → length p.body ≤ width
         → (ltb p.nr total && not (ltb width (length p.body))) ≡ true → After received slots lengths p
     unfolding insert_into
     keeps e below small in-it =

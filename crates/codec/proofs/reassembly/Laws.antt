@@ -13,14 +13,12 @@ use lib.Seq.{drop-cons, drop-drop, get_or-take, length-take-le}
 use Rattle.codec.specs.Bytes.{put_at}
 use Rattle.codec.specs.Cutting.{joined}
 use Rattle.codec.specs.Reassembly.{under_need, new_of, new_lengths, store_over, grown, recounted, slot_over, insert_check, insert_check_of, insert_of, insert_slots, insert_lengths, is_free, is_past, any_of, bytes_held, bodies_held, payload_of, over_limit, assemble_check, assemble_of, assemble_out}
-use Rattle.codec.specs.declared.bytes.Written.TheVariants as written
 use Rattle.codec.specs.declared.reassembly.ReassemblyBuffer.{ReassemblyBuffer}
-use Rattle.codec.specs.declared.reassembly.StoreMade.TheVariants as made
-use Rattle.codec.specs.declared.reassembly.Inserted.TheVariants as inserted
-use Rattle.codec.specs.declared.reassembly.Check.TheVariants as check
 use Rattle.codec.specs.declared.refusals.Refusal.{Refusal}
 use Rattle.codec.specs.declared.refusals.Refusal.TheVariants.{FragmentNumber, MissingFragments, OutputTooShort, StoreFull, OverLimit}
 use Rattle.codec.proofs.bytes.Laws.{put_behind, put_nothing, put_short, put_fits}
+use Rattle.std.specs.List.{list_any}
+use Rattle.std.specs.Prelude.{Err, Ok, Result}
 
 -- two numbers of 16 bits have a product of 32
 pub small_product : (a b : ℕ) → a < 65536 → b < 65536 → a * b ≤ 4294836225
@@ -46,19 +44,11 @@ module _ (l : List ℕ) (n i : ℕ) where
       let s : length (take n l) ≤ i = omega arith in
       drop_of_length-le (take n l) s
 
--- a search that finds, goes on, ends
-module _ (test : ℕ → Bool) (l : List ℕ) (n i : ℕ) where
-  pub any_found : i < n → n ≤ length l → test (get_or l i 0) ≡ true → any_of test (drop i (take n l)) ≡ true
-  unfolding any_of
-  any_found below fits e = rw (entries_step l n i below fits, e)
-
-  pub any_next : i < n → n ≤ length l → test (get_or l i 0) ≡ false → any_of test (drop i (take n l)) ≡ any_of test (drop (i + 1) (take n l))
-  unfolding any_of
-  any_next below fits e = rw (entries_step l n i below fits, e)
-
-  pub any_end : n ≤ i → any_of test (drop i (take n l)) ≡ false
-  unfolding any_of
-  any_end h = rw (entries_end l n i h)
+-- what `any` and `contains` answer
+pub any_same : (test : ℕ → Bool) (es : List ℕ) → list_any test es ≡ any_of test es
+unfolding any_of
+any_same test [] = refl
+any_same test (held ∷ more) = rw (any_same test more)
 
 -- neither of two
 pub neither : (x y : Bool) → (x || y) ≡ false → (x ≡ false) × (y ≡ false)
@@ -173,36 +163,36 @@ need_fits total width slots lengths e =
 
 -- each answer of an insert's check, by the tests that lead to it
 module _ (b : ReassemblyBuffer) (slots lengths held nr len : ℕ) where
-  pub insert_need : under_need b.total_fragments b.width slots lengths ≡ true → check.Refused OverLimit ≡ insert_check b slots lengths held nr len
+  pub insert_need : under_need b.total_fragments b.width slots lengths ≡ true → Err OverLimit ≡ insert_check b slots lengths held nr len
   unfolding insert_check store_over
   insert_need e = rw e
 
   module _ (enough : under_need b.total_fragments b.width slots lengths ≡ false) where
-    pub insert_count : b.total_fragments < b.received_count → check.Refused OverLimit ≡ insert_check b slots lengths held nr len
+    pub insert_count : b.total_fragments < b.received_count → Err OverLimit ≡ insert_check b slots lengths held nr len
     unfolding insert_check store_over
     insert_count h = rw (enough, lt-ltb _ _ h)
 
     module _ (counted : b.received_count ≤ b.total_fragments) where
-      pub insert_number : b.total_fragments ≤ nr → check.Refused FragmentNumber ≡ insert_check b slots lengths held nr len
+      pub insert_number : b.total_fragments ≤ nr → Err FragmentNumber ≡ insert_check b slots lengths held nr len
       unfolding insert_check store_over
       insert_number h = rw (enough, le-ltb _ _ counted, le-ltb _ _ h)
 
       module _ (below : nr < b.total_fragments) where
-        pub insert_entry : b.width + 1 < held → check.Refused OverLimit ≡ insert_check b slots lengths held nr len
+        pub insert_entry : b.width + 1 < held → Err OverLimit ≡ insert_check b slots lengths held nr len
         unfolding insert_check store_over slot_over
         insert_entry h = rw (enough, le-ltb _ _ counted, lt-ltb _ _ below, lt-ltb _ _ h)
 
         module _ (entry : held ≤ b.width + 1) where
-          pub insert_grown : b.total_fragments < grown b.received_count held → check.Refused OverLimit ≡ insert_check b slots lengths held nr len
+          pub insert_grown : b.total_fragments < grown b.received_count held → Err OverLimit ≡ insert_check b slots lengths held nr len
           unfolding insert_check store_over slot_over
           insert_grown h = rw (enough, le-ltb _ _ counted, lt-ltb _ _ below, le-ltb _ _ entry, lt-ltb _ _ h)
 
           module _ (more : grown b.received_count held ≤ b.total_fragments) where
-            pub insert_long : b.width < len → check.Refused StoreFull ≡ insert_check b slots lengths held nr len
+            pub insert_long : b.width < len → Err StoreFull ≡ insert_check b slots lengths held nr len
             unfolding insert_check store_over slot_over
             insert_long h = rw (enough, le-ltb _ _ counted, lt-ltb _ _ below, le-ltb _ _ entry, le-ltb _ _ more, lt-ltb _ _ h)
 
-            pub insert_passes : len ≤ b.width → check.Passes ≡ insert_check b slots lengths held nr len
+            pub insert_passes : len ≤ b.width → (Ok tt) ≡ insert_check b slots lengths held nr len
             unfolding insert_check store_over slot_over
             insert_passes h = rw (enough, le-ltb _ _ counted, lt-ltb _ _ below, le-ltb _ _ entry, le-ltb _ _ more, le-ltb _ _ h)
 
@@ -223,31 +213,31 @@ module _ (b : ReassemblyBuffer) (slots : ℕ) (lengths : List ℕ) where
 
 -- each answer of an assembly's check
 module _ (b : ReassemblyBuffer) (slots : ℕ) (lengths : List ℕ) where
-  pub assemble_need : under_need b.total_fragments b.width slots (length lengths) ≡ true → check.Refused OverLimit ≡ assemble_check b slots lengths
+  pub assemble_need : under_need b.total_fragments b.width slots (length lengths) ≡ true → Err OverLimit ≡ assemble_check b slots lengths
   unfolding assemble_check over_limit store_over
   assemble_need e = rw e
 
   module _ (enough : under_need b.total_fragments b.width slots (length lengths) ≡ false) where
-    pub assemble_count : b.total_fragments < b.received_count → check.Refused OverLimit ≡ assemble_check b slots lengths
+    pub assemble_count : b.total_fragments < b.received_count → Err OverLimit ≡ assemble_check b slots lengths
     unfolding assemble_check over_limit store_over
     assemble_count h = rw (enough, lt-ltb _ _ h)
 
     module _ (counted : b.received_count ≤ b.total_fragments) where
-      pub assemble_past : any_of (is_past b.width) (take b.total_fragments lengths) ≡ true → check.Refused OverLimit ≡ assemble_check b slots lengths
+      pub assemble_past : any_of (is_past b.width) (take b.total_fragments lengths) ≡ true → Err OverLimit ≡ assemble_check b slots lengths
       unfolding assemble_check over_limit store_over
       assemble_past e = rw (enough, le-ltb _ _ counted, e)
 
       module _ (within : any_of (is_past b.width) (take b.total_fragments lengths) ≡ false) where
-        pub assemble_few : b.received_count < b.total_fragments → check.Refused MissingFragments ≡ assemble_check b slots lengths
+        pub assemble_few : b.received_count < b.total_fragments → Err MissingFragments ≡ assemble_check b slots lengths
         unfolding assemble_check over_limit store_over
         assemble_few h = rw (enough, le-ltb _ _ counted, within, lt-ltb _ _ h)
 
         module _ (full : b.total_fragments ≤ b.received_count) where
-          pub assemble_free : any_of is_free (take b.total_fragments lengths) ≡ true → check.Refused MissingFragments ≡ assemble_check b slots lengths
+          pub assemble_free : any_of is_free (take b.total_fragments lengths) ≡ true → Err MissingFragments ≡ assemble_check b slots lengths
           unfolding assemble_check over_limit store_over
           assemble_free e = rw (enough, le-ltb _ _ counted, within, le-ltb _ _ full, e)
 
-          pub assemble_passes : any_of is_free (take b.total_fragments lengths) ≡ false → check.Passes ≡ assemble_check b slots lengths
+          pub assemble_passes : any_of is_free (take b.total_fragments lengths) ≡ false → (Ok tt) ≡ assemble_check b slots lengths
           unfolding assemble_check over_limit store_over
           assemble_passes e = rw (enough, le-ltb _ _ counted, within, le-ltb _ _ full, e)
 
@@ -261,7 +251,7 @@ pub record Fits (b : ReassemblyBuffer) (slots lengths held nr len : ℕ) : Type 
   pub body : len ≤ b.width
 
 insert_picks : (x y z w : Bool) (p q r s : Refusal)
-    → cond x (check.Refused p) (cond y (cond z (check.Refused q) (cond w (check.Refused r) check.Passes)) (check.Refused s)) ≡ check.Passes
+    → ◌≡◌ {A = Result (Unit {0}) Refusal} (cond x (Err p) (cond y (cond z (Err q) (cond w (Err r) (Ok tt))) (Err s))) (Ok tt)
     → (x ≡ false) × (y ≡ true) × (z ≡ false) × (w ≡ false)
 insert_picks false true false false p q r s e = (refl, refl, refl, refl)
 insert_picks true y z w p q r s e = let i : ◌≡◌ {A = ℕ} 0 1 = cc in absurd (omega arith)
@@ -269,7 +259,7 @@ insert_picks false false z w p q r s e = let i : ◌≡◌ {A = ℕ} 0 1 = cc in
 insert_picks false true true w p q r s e = let i : ◌≡◌ {A = ℕ} 0 1 = cc in absurd (omega arith)
 insert_picks false true false true p q r s e = let i : ◌≡◌ {A = ℕ} 0 1 = cc in absurd (omega arith)
 
-pub insert_fits : (b : ReassemblyBuffer) (slots lengths held nr len : ℕ) → insert_check b slots lengths held nr len ≡ check.Passes
+pub insert_fits : (b : ReassemblyBuffer) (slots lengths held nr len : ℕ) → insert_check b slots lengths held nr len ≡ (Ok tt)
     → Fits b slots lengths held nr len
 unfolding insert_check slot_over
 insert_fits b slots lengths held nr len e =
@@ -287,13 +277,13 @@ insert_fits b slots lengths held nr len e =
 
 -- each answer of `insert`
 module _ (b : ReassemblyBuffer) (slots lengths : List ℕ) (nr : ℕ) (body : List ℕ) where
-  pub insert_refused : (why : Refusal) → insert_check_of b slots lengths nr body ≡ check.Refused why
-      → (inserted.Refused why ≡ insert_of b slots lengths nr body) × ((slots ≡ insert_slots b slots lengths nr body) × (lengths ≡ insert_lengths b slots lengths nr body))
+  pub insert_refused : (why : Refusal) → insert_check_of b slots lengths nr body ≡ Err why
+      → (Err why ≡ insert_of b slots lengths nr body) × ((slots ≡ insert_slots b slots lengths nr body) × (lengths ≡ insert_lengths b slots lengths nr body))
   unfolding insert_of insert_slots insert_lengths
   insert_refused why e = rw e (refl, (refl, refl))
 
-  pub insert_held : insert_check_of b slots lengths nr body ≡ check.Passes
-      → (inserted.Held (recounted b (get_or lengths nr 0)) (eqb (grown b.received_count (get_or lengths nr 0)) b.total_fragments)
+  pub insert_held : insert_check_of b slots lengths nr body ≡ (Ok tt)
+      → (Ok ((recounted b (get_or lengths nr 0)), (eqb (grown b.received_count (get_or lengths nr 0)) b.total_fragments))
       ≡ insert_of b slots lengths nr body)
       × ((put_at slots (nr * b.width) body ≡ insert_slots b slots lengths nr body) × (set lengths nr (length body + 1) ≡ insert_lengths b slots lengths nr body))
   unfolding insert_of insert_slots insert_lengths
@@ -302,12 +292,12 @@ module _ (b : ReassemblyBuffer) (slots lengths : List ℕ) (nr : ℕ) (body : Li
 -- each answer of `new`
 module _ (total width : ℕ) (slots lengths : List ℕ) where
   pub new_refused : under_need total width (length slots) (length lengths) ≡ true
-      → (made.Refused OverLimit ≡ new_of total width slots lengths) × (lengths ≡ new_lengths total width slots lengths)
+      → (Err OverLimit ≡ new_of total width slots lengths) × (lengths ≡ new_lengths total width slots lengths)
   unfolding new_of new_lengths
   new_refused e = rw e (refl, refl)
 
   pub new_made : under_need total width (length slots) (length lengths) ≡ false
-      → (made.Store (record { total_fragments = total; received_count = 0; width = width }) ≡ new_of total width slots lengths)
+      → (Ok (record { total_fragments = total; received_count = 0; width = width }) ≡ new_of total width slots lengths)
       × (replicate total 0 ++ drop total lengths ≡ new_lengths total width slots lengths)
   unfolding new_of new_lengths
   new_made e = rw e (refl, refl)
@@ -319,13 +309,13 @@ pub record Whole (b : ReassemblyBuffer) (slots : ℕ) (lengths : List ℕ) : Typ
   pub within : any_of (is_past b.width) (take b.total_fragments lengths) ≡ false
   pub all : any_of is_free (take b.total_fragments lengths) ≡ false
 
-assemble_picks : (x y : Bool) (p q : Refusal) → cond x (check.Refused p) (cond y (check.Refused q) check.Passes) ≡ check.Passes
+assemble_picks : (x y : Bool) (p q : Refusal) → ◌≡◌ {A = Result (Unit {0}) Refusal} (cond x (Err p) (cond y (Err q) (Ok tt))) (Ok tt)
     → (x ≡ false) × (y ≡ false)
 assemble_picks false false p q e = (refl, refl)
 assemble_picks true y p q e = let i : ◌≡◌ {A = ℕ} 0 1 = cc in absurd (omega arith)
 assemble_picks false true p q e = let i : ◌≡◌ {A = ℕ} 0 1 = cc in absurd (omega arith)
 
-pub assemble_whole : (b : ReassemblyBuffer) (slots : ℕ) (lengths : List ℕ) → assemble_check b slots lengths ≡ check.Passes → Whole b slots lengths
+pub assemble_whole : (b : ReassemblyBuffer) (slots : ℕ) (lengths : List ℕ) → assemble_check b slots lengths ≡ (Ok tt) → Whole b slots lengths
 unfolding assemble_check over_limit
 assemble_whole b slots lengths e =
     let es = take b.total_fragments lengths in
@@ -341,25 +331,34 @@ assemble_whole b slots lengths e =
 
 -- each answer of `assemble`
 module _ (b : ReassemblyBuffer) (slots lengths out : List ℕ) where
-  pub assemble_refused : (why : Refusal) → assemble_check b (length slots) lengths ≡ check.Refused why
-      → (written.Refused why ≡ assemble_of b slots lengths out) × (out ≡ assemble_out b slots lengths out)
+  pub assemble_refused : (why : Refusal) → assemble_check b (length slots) lengths ≡ Err why
+      → (Err why ≡ assemble_of b slots lengths out) × (out ≡ assemble_out b slots lengths out)
   unfolding assemble_of assemble_out
   assemble_refused why e = rw e (refl, refl)
 
-  pub length_payload : assemble_check b (length slots) lengths ≡ check.Passes
+  pub length_payload : assemble_check b (length slots) lengths ≡ (Ok tt)
       → length (payload_of b slots lengths) ≡ bytes_held (take b.total_fragments lengths)
   unfolding payload_of
   length_payload e =
       let w = assemble_whole b (length slots) lengths e in
       length_joined b.width slots (take b.total_fragments lengths) (rw (length-take-le b.total_fragments lengths w.entries) w.there) w.within
 
-  pub assemble_short : assemble_check b (length slots) lengths ≡ check.Passes → length out < bytes_held (take b.total_fragments lengths)
-      → (written.Refused OutputTooShort ≡ assemble_of b slots lengths out) × (out ≡ assemble_out b slots lengths out)
+  pub assemble_short : assemble_check b (length slots) lengths ≡ (Ok tt) → length out < bytes_held (take b.total_fragments lengths)
+      → (Err OutputTooShort ≡ assemble_of b slots lengths out) × (out ≡ assemble_out b slots lengths out)
   unfolding assemble_of assemble_out
   assemble_short e h = let n = length_payload e in rw e (put_short out 0 (payload_of b slots lengths) (omega arith))
 
-  pub assemble_written : assemble_check b (length slots) lengths ≡ check.Passes → bytes_held (take b.total_fragments lengths) ≤ length out
-      → (written.Bytes (bytes_held (take b.total_fragments lengths)) ≡ assemble_of b slots lengths out)
+  pub assemble_written : assemble_check b (length slots) lengths ≡ (Ok tt) → bytes_held (take b.total_fragments lengths) ≤ length out
+      → (Ok (bytes_held (take b.total_fragments lengths)) ≡ assemble_of b slots lengths out)
       × (put_at out 0 (payload_of b slots lengths) ≡ assemble_out b slots lengths out)
   unfolding assemble_of assemble_out
   assemble_written e h = let n = length_payload e in rw (e, ← n) (put_fits out 0 (payload_of b slots lengths) (omega arith))
+
+-- the checks, as the code meets them
+pub ruleset insert_laws = (insert_need, insert_count, insert_number, insert_entry, insert_grown, insert_long, insert_passes)
+
+-- 16 of a store as a whole
+pub ruleset over_laws = (need_fits, over_need, over_count, over_past)
+
+-- 16, then 11
+pub ruleset assemble_laws = (need_fits, assemble_need, assemble_count, assemble_past, assemble_few, assemble_free, assemble_passes)

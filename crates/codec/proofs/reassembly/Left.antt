@@ -13,16 +13,13 @@ use Rattle.codec.specs.Bytes.{put_at}
 use Rattle.codec.specs.Cutting.{joined}
 use Rattle.codec.specs.Reassembly.{under_need, new_lengths, is_past, any_of, grown, recounted, bytes_held, insert_check_of, inserted_if, insert_of, insert_slots, insert_lengths, payload_of, assemble_check, assemble_of, assemble_out}
 use Rattle.codec.specs.Inserts.{Store, slots_in, Sound}
-use Rattle.codec.specs.declared.bytes.Written.TheVariants as written
 use Rattle.codec.specs.declared.reassembly.ReassemblyBuffer.{ReassemblyBuffer}
-use Rattle.codec.specs.declared.reassembly.Inserted.{Inserted}
-use Rattle.codec.specs.declared.reassembly.Inserted.TheVariants as inserted
-use Rattle.codec.specs.declared.reassembly.Check.{Check}
-use Rattle.codec.specs.declared.reassembly.Check.TheVariants as check
 use Rattle.codec.proofs.bytes.Laws.{length_put}
 use Rattle.codec.proofs.reassembly.Laws.{neither, slot_ends, need_fits, new_refused, new_made, insert_fits, insert_refused, insert_held, assemble_whole, assemble_refused, assemble_short, assemble_written, length_payload, assemble_passes}
 use Rattle.codec.proofs.reassembly.View.{drop_put, body_in, bodies_of_slots, all_held}
 use Rattle.codec.proofs.reassembly.Inserts.{made, Good, check_good}
+use Rattle.std.specs.Prelude.{Err, Ok, Result}
+use Rattle.codec.specs.declared.refusals.Refusal.{Refusal}
 
 -- ---- any store
 
@@ -32,12 +29,12 @@ pub insert_length : (b : ReassemblyBuffer) (slots lengths : List ℕ) (nr : ℕ)
 unfolding insert_check_of
 insert_length b slots lengths nr body = by (insert_check_of b slots lengths nr body) refl
   where
-    by : (c : Check) → insert_check_of b slots lengths nr body ≡ c
+    by : (c : Result (Unit {0}) Refusal) → insert_check_of b slots lengths nr body ≡ c
         → (length (insert_slots b slots lengths nr body) ≡ length slots) × (length (insert_lengths b slots lengths nr body) ≡ length lengths)
-    by (check.Refused why) e =
+    by (Err why) e =
         let q = insert_refused b slots lengths nr body why e in
         (sym (ap length q.1.0), sym (ap length q.1.1))
-    by check.Passes e =
+    by (Ok tt) e =
         let q = insert_held b slots lengths nr body e in
         let f = insert_fits b (length slots) (length lengths) (get_or lengths nr 0) nr (length body) e in
         let ends = slot_ends nr b.total_fragments b.width f.below in (
@@ -46,17 +43,17 @@ insert_length b slots lengths nr body = by (insert_check_of b slots lengths nr b
         )
 
 -- and a buffer of the same total and width
-abbrev pub SameStore : ReassemblyBuffer → Inserted → Type 0
-SameStore b (inserted.Held after all) = (after.total_fragments ≡ b.total_fragments) × (after.width ≡ b.width)
-SameStore b (inserted.Refused why) = Unit {0}
+abbrev pub SameStore : ReassemblyBuffer → Result (ReassemblyBuffer × Bool) Refusal → Type 0
+SameStore b (Ok (after, all)) = (after.total_fragments ≡ b.total_fragments) × (after.width ≡ b.width)
+SameStore b (Err why) = Unit {0}
 
 pub insert_same : (b : ReassemblyBuffer) (slots lengths : List ℕ) (nr : ℕ) (body : List ℕ) → SameStore b (insert_of b slots lengths nr body)
 unfolding insert_of
 insert_same b slots lengths nr body = by (insert_check_of b slots lengths nr body)
   where
-    by : (c : Check) → SameStore b (inserted_if c (inserted.Held (recounted b (get_or lengths nr 0)) (eqb (grown b.received_count (get_or lengths nr 0)) b.total_fragments)))
-    by (check.Refused why) = Prim.tt
-    by check.Passes = (refl, refl)
+    by : (c : Result (Unit {0}) Refusal) → SameStore b (inserted_if c (Ok ((recounted b (get_or lengths nr 0)), (eqb (grown b.received_count (get_or lengths nr 0)) b.total_fragments))))
+    by (Err why) = Prim.tt
+    by (Ok tt) = (refl, refl)
 
 -- a new store's lengths are as many as there were
 pub new_length : (total width : ℕ) (slots lengths : List ℕ) → length (new_lengths total width slots lengths) ≡ length lengths
@@ -85,7 +82,7 @@ abbrev pub Keeps : ℕ → List ℕ → List ℕ → Type 0
 Keeps n out after = (length after ≡ length out) × (drop n after ≡ drop n out)
 
 module _ (b : ReassemblyBuffer) (slots lengths : List ℕ) where
-  payload_short : assemble_check b (length slots) lengths ≡ check.Passes → length (payload_of b slots lengths) ≤ b.total_fragments * b.width
+  payload_short : assemble_check b (length slots) lengths ≡ (Ok tt) → length (payload_of b slots lengths) ≤ b.total_fragments * b.width
   payload_short e =
       let w = assemble_whole b (length slots) lengths e in
       let l = length-take-le b.total_fragments lengths w.entries in
@@ -97,7 +94,7 @@ module _ (b : ReassemblyBuffer) (slots lengths : List ℕ) where
   pub assemble_keeps : (out : List ℕ) (n : ℕ) → b.total_fragments * b.width ≤ n → Keeps n out (assemble_out b slots lengths out)
   assemble_keeps out n h = by (assemble_check b (length slots) lengths) refl
     where
-      go : assemble_check b (length slots) lengths ≡ check.Passes → (t : Bool) → ltb (length out) (bytes_held (take b.total_fragments lengths)) ≡ t → Keeps n out (assemble_out b slots lengths out)
+      go : assemble_check b (length slots) lengths ≡ (Ok tt) → (t : Bool) → ltb (length out) (bytes_held (take b.total_fragments lengths)) ≡ t → Keeps n out (assemble_out b slots lengths out)
       go e true q = subst (Keeps n out) (assemble_short b slots lengths out e (ltb-true _ _ q)).1 (refl, refl)
       go e false q =
           let r = ltb-false (length out) (bytes_held (take b.total_fragments lengths)) q in
@@ -106,15 +103,15 @@ module _ (b : ReassemblyBuffer) (slots lengths : List ℕ) where
           subst (Keeps n out) (assemble_written b slots lengths out e r).1
           (length_put out 0 (payload_of b slots lengths) (omega (arith, l, r)), drop_put out (payload_of b slots lengths) n (omega (arith, s, h)))
 
-      by : (c : Check) → assemble_check b (length slots) lengths ≡ c → Keeps n out (assemble_out b slots lengths out)
-      by (check.Refused why) e = subst (Keeps n out) (assemble_refused b slots lengths out why e).1 (refl, refl)
-      by check.Passes e = go e (ltb (length out) (bytes_held (take b.total_fragments lengths))) refl
+      by : (c : Result (Unit {0}) Refusal) → assemble_check b (length slots) lengths ≡ c → Keeps n out (assemble_out b slots lengths out)
+      by (Err why) e = subst (Keeps n out) (assemble_refused b slots lengths out why e).1 (refl, refl)
+      by (Ok tt) e = go e (ltb (length out) (bytes_held (take b.total_fragments lengths))) refl
 
 -- ---- a sound store
 
 -- a fragment below the total whose body fits is held
 pub insert_good : (total width received : ℕ) (slots lengths : List ℕ) → Good total width received slots lengths → (nr : ℕ) (body : List ℕ) → nr < total → length body ≤ width
-    → inserted.Held (made total width (grown received (get_or lengths nr 0)) slots lengths).buffer (eqb (grown received (get_or lengths nr 0)) total) ≡ insert_of (made total width received slots lengths).buffer slots lengths nr body
+    → Ok ((made total width (grown received (get_or lengths nr 0)) slots lengths).buffer, (eqb (grown received (get_or lengths nr 0)) total)) ≡ insert_of (made total width received slots lengths).buffer slots lengths nr body
 insert_good total width received slots lengths good nr body below small =
     (insert_held (made total width received slots lengths).buffer slots lengths nr body
     (check_good total width good nr body true (lt-ltb nr total below) ∙ rw (le-ltb width (length body) small))).0
@@ -124,7 +121,7 @@ module _ (st : Store) (sound : Sound st) (full : st.buffer.received_count ≡ st
   abbrev total : ℕ
   total = st.buffer.total_fragments
 
-  judged : assemble_check st.buffer (length st.slots) st.lengths ≡ check.Passes
+  judged : assemble_check st.buffer (length st.slots) st.lengths ≡ (Ok tt)
   unfolding under_need
   judged =
       let none = all_held st.buffer.width st.slots (take total st.lengths) (sym sound.counted ∙ full ∙ sym (length-take-le total st.lengths sound.entries)) in
@@ -140,9 +137,9 @@ module _ (st : Store) (sound : Sound st) (full : st.buffer.received_count ≡ st
   payload_most = payload_short st.buffer st.slots st.lengths judged
 
   pub assemble_good : (out : List ℕ) → length (payload_of st.buffer st.slots st.lengths) ≤ length out
-      → (written.Bytes (length (payload_of st.buffer st.slots st.lengths)) ≡ assemble_of st.buffer st.slots st.lengths out)
+      → (Ok (length (payload_of st.buffer st.slots st.lengths)) ≡ assemble_of st.buffer st.slots st.lengths out)
       × (put_at out 0 (payload_of st.buffer st.slots st.lengths) ≡ assemble_out st.buffer st.slots st.lengths out)
   assemble_good out h =
       let l = length_payload st.buffer st.slots st.lengths out judged in
       let w = assemble_written st.buffer st.slots st.lengths out judged (omega (arith, l, h)) in
-      (ap written.Bytes l ∙ w.0, w.1)
+      (ap Ok l ∙ w.0, w.1)

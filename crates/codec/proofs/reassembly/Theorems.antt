@@ -16,9 +16,6 @@ use Rattle.codec.specs.Cutting.{bodies, joined}
 use Rattle.codec.specs.Reassembly.{new_of, new_lengths, store_over, under_need, grown, insert_check_of, insert_of, inserted_if, any_of, has_fragment, bodies_held, payload_of, assemble_check, assemble_of, assemble_out, over_limit}
 use Rattle.codec.specs.Inserts.{Store, Piece, insert_into, inserts, free, holds, slots_in, last_of, came, different, pieces, store_after, AllCame, Rebuilds, Tells, Rebuild}
 use Rattle.codec.specs.declared.reassembly.ReassemblyBuffer.{ReassemblyBuffer}
-use Rattle.codec.specs.declared.reassembly.Inserted.TheVariants as inserted
-use Rattle.codec.specs.declared.reassembly.Check.{Check}
-use Rattle.codec.specs.declared.reassembly.Check.TheVariants as check
 use Rattle.codec.specs.declared.refusals.Refusal.{Refusal}
 use Rattle.codec.proofs.cutting.Laws.{body_at, joined_bodies}
 use Rattle.codec.proofs.reassembly.Laws.{insert_refused, insert_held}
@@ -26,12 +23,13 @@ use Rattle.codec.proofs.reassembly.View.{held_set, body_in, bodies_of_slots, is_
 use Rattle.codec.proofs.reassembly.Inserts.{made, view, Good, length_view, check_good, run, new_good, new_free}
 use Rattle.codec.proofs.reassembly.Held.{new_tells, sound_tells}
 use Rattle.codec.proofs.reassembly.Numbers.{came_more, different_all, different_less, held_different, arrives}
+use Rattle.std.specs.Prelude.{Err, Ok, Result}
 
 -- An insert that is refused changes nothing, whatever the store.
-refused_check : (c : Check) (b : ReassemblyBuffer) (all : Bool) (number byte : ℕ) → inserted_answer (inserted_if c (inserted.Held b all)) ≡ refused_as number byte
-    → (why : Refusal) × (c ≡ check.Refused why)
-refused_check (check.Refused why) b all number byte e = (why, refl)
-refused_check check.Passes b all number byte e = let z : ◌≡◌ {A = ℕ} 0 1 = cc in absurd (omega arith)
+refused_check : (c : Result (Unit {0}) Refusal) (b : ReassemblyBuffer) (all : Bool) (number byte : ℕ) → inserted_answer (inserted_if c (Ok (b, all))) ≡ refused_as number byte
+    → (why : Refusal) × (c ≡ Err why)
+refused_check (Err why) b all number byte e = (why, refl)
+refused_check (Ok tt) b all number byte e = let z : ◌≡◌ {A = ℕ} 0 1 = cc in absurd (omega arith)
 
 pub refused_keeps : (st : Store) (p : Piece) (number byte : ℕ)
     → inserted_answer (insert_of st.buffer st.slots st.lengths p.nr p.body) ≡ refused_as number byte → insert_into st p ≡ st
@@ -137,7 +135,7 @@ module _ (bs : List (List ℕ)) (payload : List ℕ) (width : ℕ) (joins : join
         × (inserted_answer (insert_of (made (length bs) width received slots lengths).buffer slots lengths k (get_or bs k []))
         ≡ gives (after, eqb (different (length bs) (nrs ++ (k ∷ []))) (length bs)))
     answers =
-        let e : insert_check_of (made (length bs) width received slots lengths).buffer slots lengths k (get_or bs k []) ≡ check.Passes =
+        let e : insert_check_of (made (length bs) width received slots lengths).buffer slots lengths k (get_or bs k []) ≡ (Ok tt) =
         check_good (length bs) width good k (get_or bs k []) true (lt-ltb k (length bs) below) ∙ rw (le-ltb width (length (get_or bs k [])) (fits k)) in
         let q = insert_held (made (length bs) width received slots lengths).buffer slots lengths k (get_or bs k []) e in
         ((made (length bs) width (grown received (get_or lengths k 0)) slots lengths).buffer, ap inserted_answer (sym q.0) ∙ rw grown_is)

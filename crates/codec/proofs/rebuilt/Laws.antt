@@ -1,5 +1,5 @@
 -- Laws of rebuilt bytes: the check a submessage at a time, and what a check that passes says of the submessages.
-use Prim.Native.Nat.{ℕ, suc, ◌+◌, ◌≤◌, ◌<◌}
+use Prim.Native.Nat.{ℕ, suc, ◌+◌, ◌-◌, ◌≤◌, ◌<◌}
 use mathlib.Core.Path.{◌≡◌, refl, sym, ◌∙◌}
 use mathlib.Core.Bool.{Bool, true, false, cond, ◌||◌}
 use mathlib.Core.List.{List, [], ◌∷◌, map}
@@ -7,27 +7,23 @@ use native.Mathlib.Omega.{arith}
 use borrow.Author.Tests.{eqb-true, eq-eqb, ne_eqb}
 use lib.Dec.{eqb}
 use lib.ListN.{get_or, length}
-use Rattle.codec.specs.Bytes.{word_at}
 use Rattle.codec.specs.Layouts.{layout_at, create_at, create_of, status_at, status_of}
 use Rattle.codec.specs.Submessages.{id_of, kind_of, code_of}
-use Rattle.codec.specs.Reading.{read_at, failure_at, Item, Items, items, stopped, before, items_at}
+use Rattle.codec.specs.Reading.{read_at, end_at, Item, Items, items, stopped, before, items_at}
 use Rattle.codec.specs.Grammar.{said_in}
 use Rattle.codec.specs.Rebuilt.{barred, barred_id, any_barred, rebuilt_by, rebuilt_at, rebuilt_of, rebuilt_reading}
-use Rattle.codec.specs.declared.layouts.Parsed.{Parsed}
-use Rattle.codec.specs.declared.layouts.Parsed.TheVariants.{Sub, Refused}
-use Rattle.codec.specs.declared.rebuilt.Rebuilt.{Rebuilt}
-use Rattle.codec.specs.declared.rebuilt.Rebuilt.TheVariants as rebuilt
 use Rattle.codec.specs.declared.refusals.Refusal.{Refusal}
 use Rattle.codec.specs.declared.refusals.Refusal.TheVariants.{BufferTooShort, NotInFragments}
-use Rattle.codec.specs.declared.submessages.CodeRead.{CodeRead}
-use Rattle.codec.specs.declared.submessages.CodeRead.TheVariants as code-read
-use Rattle.codec.specs.declared.submessages.KindRead.{KindRead}
-use Rattle.codec.specs.declared.submessages.KindRead.TheVariants as kind-read
 use Rattle.codec.specs.declared.submessages.Submessage.{Submessage}
 use Rattle.codec.specs.declared.submessages.Submessage.TheVariants.{CreateClient, Create, Delete, Status, WriteData, ReadData, Data, Heartbeat, Acknack, Fragment}
 use Rattle.codec.proofs.Either.{either}
-use Rattle.codec.proofs.failures.Laws.{FailureIf, number, failure_some, read_failure, read_met}
-use Rattle.codec.proofs.reading.Laws.{Ends, payload_ends, read_payload, items_end, items_more}
+use Rattle.codec.proofs.failures.Laws.{ended}
+use Rattle.codec.proofs.reading.Laws.{items_end, items_more}
+use Rattle.std.specs.Prelude.{Err, Ok, Result}
+use Rattle.codec.specs.declared.layouts.Cursor.{Cursor}
+use Rattle.codec.specs.declared.submessages.ObjectKind.{ObjectKind}
+use Rattle.codec.specs.declared.layouts.Span.{Span}
+use Rattle.codec.specs.declared.submessages.StatusCode.{StatusCode}
 
 -- ---- the id of a submessage that was read tells whether it is barred
 
@@ -44,18 +40,18 @@ barred_own (Acknack p) = refl
 barred_own (Fragment p) = refl
 
 -- the id under which a layout was read is the submessage's own
-abbrev Own : ℕ → Parsed → Type 0
-Own id (Sub m x c) = id_of m ≡ id
-Own id (Refused r) = Unit
+abbrev Own : ℕ → Result (Submessage × Span × Cursor) Refusal → Type 0
+Own id (Ok (m, x, c)) = id_of m ≡ id
+Own id (Err r) = Unit
 
 module _ (s : List ℕ) (p len : ℕ) where
-  own_create : (id : ℕ) → 1 ≡ id → (k : KindRead) → Own id (create_of s p len k)
-  own_create id e (kind-read.Kind k) = e
-  own_create id e (kind-read.Refused r) = tt
+  own_create : (id : ℕ) → 1 ≡ id → (k : Result ObjectKind Refusal) → Own id (create_of s p len k)
+  own_create id e (Ok k) = e
+  own_create id e (Err r) = tt
 
-  own_status : (id : ℕ) → 5 ≡ id → (k : CodeRead) → Own id (status_of s p len k)
-  own_status id e (code-read.Code k) = e
-  own_status id e (code-read.Refused r) = tt
+  own_status : (id : ℕ) → 5 ≡ id → (k : Result StatusCode Refusal) → Own id (status_of s p len k)
+  own_status id e (Ok k) = e
+  own_status id e (Err r) = tt
 
   own_layout : (id : ℕ) → Own id (layout_at s id p len)
   unfolding layout_at create_at status_at
@@ -79,9 +75,9 @@ or_assoc : (a b c : Bool) → (a || (b || c)) ≡ ((a || b) || c)
 or_assoc true b c = refl
 or_assoc false b c = refl
 
-abbrev pub on_from : Bool → ℕ → Items → Rebuilt
-on_from met n (items xs) = cond (met || any_barred xs) (rebuilt.Refused NotInFragments) (rebuilt.Subs (n + length xs))
-on_from met n (stopped r) = rebuilt.Refused r
+abbrev pub on_from : Bool → ℕ → Items → Result ℕ Refusal
+on_from met n (items xs) = cond (met || any_barred xs) (Err NotInFragments) (Ok (n + length xs))
+on_from met n (stopped r) = Err r
 
 pub from_none : (i : Items) → on_from false 0 i ≡ rebuilt_by i
 from_none (items xs) = let e : 0 + length xs ≡ length xs = omega arith in rw e
@@ -93,36 +89,26 @@ from_before met n x (items xs) =
     rw (e, or_assoc met (barred x.says) (any_barred xs))
 from_before met n x (stopped r) = refl
 
-pub from_stopped : (s : List ℕ) (at n : ℕ) (met : Bool) (r : Refusal) → at < length s → read_at s at ≡ Refused r → on_from met n (items_at s at) ≡ rebuilt.Refused r
+pub from_stopped : (s : List ℕ) (at n : ℕ) (met : Bool) (r : Refusal) → at < length s → read_at s at ≡ Err r → on_from met n (items_at s at) ≡ Err r
 from_stopped s at n met r k e = rw (items_more s at k, e)
 
 -- no failure: one submessage more, and its id tells whether it is barred
-module _ (s : List ℕ) (at : ℕ) (met : Bool) (n : ℕ) where
-  from_answer : (id e : ℕ) (q : Parsed) → at < length s → read_at s at ≡ q → FailureIf s id (at + 4) (word_at s (at + 2)) q
-      → number q ≡ 0 → Ends e q → Own id q → on_from met n (items_at s at) ≡ on_from (met || barred_id id) (n + 1) (items_at s e)
-  from_answer id e (Sub m x c) k d f z ends own =
-      rw (items_more s at k, d) (from_before met n (record { says = m; span = x }) (items_at s c.at) ∙ rw (barred_own m, own, ends.0))
-  from_answer id e (Refused r) k d f z ends own = absurd (omega (arith, z, failure_some f))
-
-  pub from_met : at < length s → failure_at s at ≡ 0
-      → on_from met n (items_at s at) ≡ on_from (met || barred_id (get_or s at 0)) (n + 1) (items_at s (at + 4 + word_at s (at + 2)))
-  unfolding failure_at
-  from_met k e =
-      let id = get_or s at 0 in
-      let len = word_at s (at + 2) in
-      let m = read_met s at e in
-      let ends : Ends (at + 4 + len) (read_at s at) = rw (read_payload s at id len (omega (arith, m.room)) refl refl) (payload_ends s id (at + 4) len m.room) in
-      let own : Own id (read_at s at) = rw m.laid at (own_layout s (at + 4) len id) in
-      from_answer id (at + 4 + len) (read_at s at) k refl (read_failure s at) e ends own
+pub from_past : (s : List ℕ) (at : ℕ) (met : Bool) (n e : ℕ) → at < length s → end_at s at ≡ Ok e
+    → on_from met n (items_at s at) ≡ on_from (met || barred_id (get_or s at 0)) (n + 1) (items_at s e)
+from_past s at met n e k d =
+    let id = get_or s at 0 in
+    let w = ended s at e d in
+    let own : Own id (Ok (w.says, w.span, w.behind)) = rw w.read at (rw w.laid at (own_layout s (at + 4) (e - (at + 4)) id)) in
+    rw (items_more s at k, w.read) (from_before met n (record { says = w.says; span = w.span }) (items_at s w.behind.at) ∙ rw (barred_own w.says, own, w.end))
 
 -- the end: 17 where one was barred, else the count
-pub from_end : (s : List ℕ) (at n : ℕ) (met : Bool) → length s ≤ at → on_from met n (items_at s at) ≡ cond met (rebuilt.Refused NotInFragments) (rebuilt.Subs n)
+pub from_end : (s : List ℕ) (at n : ℕ) (met : Bool) → length s ≤ at → on_from met n (items_at s at) ≡ cond met (Err NotInFragments) (Ok n)
 from_end s at n true k = rw (items_end s at k)
 from_end s at n false k = let e : n + 0 ≡ n = omega arith in rw (items_end s at k, e)
 
 -- ---- the whole
 
-pub whole_none : (s : List ℕ) → length s ≡ 0 → rebuilt.Refused BufferTooShort ≡ rebuilt_of s
+pub whole_none : (s : List ℕ) → length s ≡ 0 → Err BufferTooShort ≡ rebuilt_of s
 unfolding rebuilt_of
 whole_none s h = rw (eq-eqb (length s) 0 h)
 
@@ -132,43 +118,43 @@ whole_some s h = rw (ne_eqb (length s) 0 h)
 
 -- ---- a check that passes
 
-passed_by : (xs : List Item) (n : ℕ) (b : Bool) → any_barred xs ≡ b → cond b (rebuilt.Refused NotInFragments) (rebuilt.Subs (length xs)) ≡ rebuilt.Subs n
+passed_by : (xs : List Item) (n : ℕ) (b : Bool) → any_barred xs ≡ b → cond b (Err NotInFragments) (Ok (length xs)) ≡ Ok n
     → (any_barred xs ≡ false) × (length xs ≡ n)
 passed_by xs n true e d = let z : ◌≡◌ {A = ℕ} 0 1 = cc in absurd (omega arith)
 passed_by xs n false e d = (e, cc)
 
-reads_by : (i : Items) (n : ℕ) → rebuilt_by i ≡ rebuilt.Subs n → (xs : List Item) × (i ≡ items xs) × (any_barred xs ≡ false) × (length xs ≡ n)
+reads_by : (i : Items) (n : ℕ) → rebuilt_by i ≡ Ok n → (xs : List Item) × (i ≡ items xs) × (any_barred xs ≡ false) × (length xs ≡ n)
 reads_by (items xs) n e = let p = passed_by xs n (any_barred xs) refl e in (xs, refl, p.0, p.1)
 reads_by (stopped r) n e = let z : ◌≡◌ {A = ℕ} 0 1 = cc in absurd (omega arith)
 
 -- every submessage reads, none is barred, and they are as many as it says
-pub rebuilt_reads : (s : List ℕ) (at n : ℕ) → rebuilt_at s at ≡ rebuilt.Subs n
+pub rebuilt_reads : (s : List ℕ) (at n : ℕ) → rebuilt_at s at ≡ Ok n
     → (xs : List Item) × (items_at s at ≡ items xs) × (any_barred xs ≡ false) × (length xs ≡ n)
 unfolding rebuilt_at
 rebuilt_reads s at n e = reads_by (items_at s at) n e
 
 -- and back
-pub rebuilt_is : (s : List ℕ) (at : ℕ) (xs : List Item) → items_at s at ≡ items xs → any_barred xs ≡ false → rebuilt_at s at ≡ rebuilt.Subs (length xs)
+pub rebuilt_is : (s : List ℕ) (at : ℕ) (xs : List Item) → items_at s at ≡ items xs → any_barred xs ≡ false → rebuilt_at s at ≡ Ok (length xs)
 unfolding rebuilt_at
 rebuilt_is s at xs e b = rw (e, b)
 
-pub rebuilt_bars : (s : List ℕ) (at : ℕ) (xs : List Item) → items_at s at ≡ items xs → any_barred xs ≡ true → rebuilt_at s at ≡ rebuilt.Refused NotInFragments
+pub rebuilt_bars : (s : List ℕ) (at : ℕ) (xs : List Item) → items_at s at ≡ items xs → any_barred xs ≡ true → rebuilt_at s at ≡ Err NotInFragments
 unfolding rebuilt_at
 rebuilt_bars s at xs e b = rw (e, b)
 
 -- of the whole: there are bytes, and what they say is what those submessages say
-pub some_bytes : (s : List ℕ) (n : ℕ) → rebuilt_of s ≡ rebuilt.Subs n → length s ≡ 0 → ⊥
+pub some_bytes : (s : List ℕ) (n : ℕ) → rebuilt_of s ≡ Ok n → length s ≡ 0 → ⊥
 some_bytes s n e z = let w : ◌≡◌ {A = ℕ} 0 1 = cc (whole_none s z) in omega arith
 
-pub whole_reads : (s : List ℕ) (n : ℕ) → rebuilt_of s ≡ rebuilt.Subs n → rebuilt_at s 0 ≡ rebuilt.Subs n
+pub whole_reads : (s : List ℕ) (n : ℕ) → rebuilt_of s ≡ Ok n → rebuilt_at s 0 ≡ Ok n
 whole_reads s n e = whole_some s (some_bytes s n e) ∙ e
 
-pub reading_passed : (s : List ℕ) (n : ℕ) (xs : List Item) → rebuilt_of s ≡ rebuilt.Subs n → items_at s 0 ≡ items xs → rebuilt_reading s ≡ map (said_in s) xs
+pub reading_passed : (s : List ℕ) (n : ℕ) (xs : List Item) → rebuilt_of s ≡ Ok n → items_at s 0 ≡ items xs → rebuilt_reading s ≡ map (said_in s) xs
 unfolding rebuilt_reading
 reading_passed s n xs e i = rw (e, i)
 
 -- refused bytes say nothing
-pub reading_refused : (s : List ℕ) (r : Refusal) → rebuilt_of s ≡ rebuilt.Refused r → rebuilt_reading s ≡ []
+pub reading_refused : (s : List ℕ) (r : Refusal) → rebuilt_of s ≡ Err r → rebuilt_reading s ≡ []
 unfolding rebuilt_reading
 reading_refused s r e = rw e
 

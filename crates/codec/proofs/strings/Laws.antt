@@ -11,28 +11,28 @@ use Rattle.codec.specs.Reading.{part_of}
 use Rattle.codec.specs.Strings.{string_bytes, span_at, string_at}
 use Rattle.codec.specs.Text.{well_formed}
 use Rattle.codec.specs.declared.refusals.Refusal.TheVariants.{BufferTooShort, IllFormed}
-use Rattle.codec.specs.declared.strings.StringRead.TheVariants.{Text, Refused}
-use Rattle.codec.proofs.bytes.Laws.{put_behind}
+use Rattle.codec.proofs.bytes.Laws.{put_behind, fits_yes, fits_no}
+use Rattle.std.specs.Prelude.{Err, Ok}
 
 module _ (s : List ℕ) (at : ℕ) where
-  pub string_none : length s < at + 2 → Refused BufferTooShort ≡ string_at s at
+  pub string_none : length s < at + 2 → Err BufferTooShort ≡ string_at s at
   unfolding string_at
   string_none h = rw (lt-ltb (length s) (at + 2) h)
 
-  pub string_cut : at + 2 ≤ length s → length s < at + 2 + word_at s at → Refused BufferTooShort ≡ string_at s at
+  pub string_cut : at + 2 ≤ length s → length s < at + 2 + word_at s at → Err BufferTooShort ≡ string_at s at
   unfolding string_at
   string_cut h k = rw (le-ltb (length s) (at + 2) h, lt-ltb (length s) (at + 2 + word_at s at) k)
 
   -- it is whole: its bytes decide
   module _ (h : at + 2 + word_at s at ≤ length s) where
-    pub string_told : cond (well_formed (part_of s (span_at s at))) (Text (span_at s at)) (Refused IllFormed) ≡ string_at s at
+    pub string_told : cond (well_formed (part_of s (span_at s at))) (Ok (span_at s at)) (Err IllFormed) ≡ string_at s at
     unfolding string_at
     string_told = rw (le-ltb (length s) (at + 2) (omega arith), le-ltb (length s) (at + 2 + word_at s at) h)
 
-    pub string_text : well_formed (part_of s (span_at s at)) ≡ true → Text (span_at s at) ≡ string_at s at
+    pub string_text : well_formed (part_of s (span_at s at)) ≡ true → Ok (span_at s at) ≡ string_at s at
     string_text e = sym (rw e) ∙ string_told
 
-    pub string_ill : well_formed (part_of s (span_at s at)) ≡ false → Refused IllFormed ≡ string_at s at
+    pub string_ill : well_formed (part_of s (span_at s at)) ≡ false → Err IllFormed ≡ string_at s at
     string_ill e = sym (rw e) ∙ string_told
 
 pub length_string : (text : List ℕ) → length (string_bytes text) ≡ 2 + length text
@@ -43,3 +43,6 @@ pub string_put : (out : List ℕ) (at : ℕ) (text : List ℕ) → at + 2 + leng
     → put_at (put_at out at (le16 (length text))) (at + 2) text ≡ put_at out at (string_bytes text)
 unfolding string_bytes le16
 string_put out at text h = put_behind out at (le16 (length text)) text (omega arith)
+
+-- the answers of `decode_string`
+pub ruleset string_laws = (fits_yes, fits_no, string_none, string_cut, string_ill, string_text)

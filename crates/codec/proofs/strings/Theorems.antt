@@ -16,19 +16,19 @@ use Rattle.codec.specs.Text.{IsText, well_formed}
 use Rattle.codec.specs.Grammar.{IsString}
 use Rattle.codec.specs.declared.layouts.Span.{Span}
 use Rattle.codec.specs.declared.refusals.Refusal.TheVariants.{BufferTooShort, IllFormed}
-use Rattle.codec.specs.declared.strings.StringRead.{StringRead}
-use Rattle.codec.specs.declared.strings.StringRead.TheVariants.{Text, Refused}
 use Rattle.codec.proofs.Complete.{part_is}
 use Rattle.codec.proofs.Sound.{part_taken}
 use Rattle.codec.proofs.Pieces.{word_small, word_piece, word_back, drop_behind}
 use Rattle.codec.proofs.strings.Laws.{string_none, string_cut, string_told, string_text, string_ill}
 use Rattle.codec.proofs.text.Theorems.{text_well, well_text}
+use Rattle.std.specs.Prelude.{Err, Ok, Result}
+use Rattle.codec.specs.declared.refusals.Refusal.{Refusal}
 
 module _ (s : List ℕ) (at : ℕ) where
-  pub cut_short : length s < at + 2 + word_at s at → Refused BufferTooShort ≡ string_at s at
+  pub cut_short : length s < at + 2 + word_at s at → Err BufferTooShort ≡ string_at s at
   cut_short h = by (ltb (length s) (at + 2)) refl
     where
-      by : (b : Bool) → ltb (length s) (at + 2) ≡ b → Refused BufferTooShort ≡ string_at s at
+      by : (b : Bool) → ltb (length s) (at + 2) ≡ b → Err BufferTooShort ≡ string_at s at
       by true e = string_none s at (ltb-true (length s) (at + 2) e)
       by false e = string_cut s at (ltb-false (length s) (at + 2) e) h
 
@@ -38,13 +38,13 @@ module _ (s : List ℕ) (at : ℕ) where
     pub own : x ≡ span_at s at
     pub well : well_formed (part_of s x) ≡ true
 
-  given_by : at + 2 + word_at s at ≤ length s → (b : Bool) → well_formed (part_of s (span_at s at)) ≡ b → (x : Span) → cond b (Text (span_at s at)) (Refused IllFormed) ≡ Text x → Given x
+  given_by : at + 2 + word_at s at ≤ length s → (b : Bool) → well_formed (part_of s (span_at s at)) ≡ b → (x : Span) → cond b (Ok (span_at s at)) (Err IllFormed) ≡ Ok x → Given x
   given_by h true t x e =
       let same : span_at s at ≡ x = cc in
       record { whole = h; own = sym same; well = rw (← same) t }
   given_by h false t x e = let z : ◌≡◌ {A = ℕ} 0 1 = cc in absurd (omega arith)
 
-  pub string_given : (x : Span) → string_at s at ≡ Text x → Given x
+  pub string_given : (x : Span) → string_at s at ≡ Ok x → Given x
   string_given x e = by (ltb (length s) (at + 2 + word_at s at)) refl
     where
       by : (b : Bool) → ltb (length s) (at + 2 + word_at s at) ≡ b → Given x
@@ -74,7 +74,7 @@ module _ (s : List ℕ) (at : ℕ) where
     pub part_there : part_of s (span_at s at) ≡ text
     part_there = rw length_there (part_is s (at + 2) (length text) text behind bytes_there refl whole_there)
 
-    pub read_there : string_at s at ≡ Text (span_at s at)
+    pub read_there : string_at s at ≡ Ok (span_at s at)
     read_there = sym (string_text s at (rw length_there whole_there) (rw part_there (text_well text g.is_text)))
 
     pub behind_there : drop (at + 2 + word_at s at) s ≡ behind
@@ -100,14 +100,14 @@ module _ (s : List ℕ) (at : ℕ) where
   pub only_text : AllBytes s → (x : Span) → string_answer (string_at s at) ≡ gives x → (x ≡ span_at s at) × IsString (part_of s x) (drop (x.start + x.len) s) (drop at s)
   only_text small x e = by (string_at s at) refl e
     where
-      by : (r : StringRead) → string_at s at ≡ r → string_answer r ≡ gives x → (x ≡ span_at s at) × IsString (part_of s x) (drop (x.start + x.len) s) (drop at s)
-      by (Text y) f e =
+      by : (r : Result Span Refusal) → string_at s at ≡ r → string_answer r ≡ gives x → (x ≡ span_at s at) × IsString (part_of s x) (drop (x.start + x.len) s) (drop at s)
+      by (Ok y) f e =
           let same : y ≡ x = cc in
           let g = string_given x (f ∙ rw same) in (
             g.own,
             rw g.own (record { stands = stands_there g.whole small; long = rw (long_there g.whole) (word_small s small at); is_text = rw (← g.own) (well_text _ g.well) }),
           )
-      by (Refused r) f e = let z : ◌≡◌ {A = ℕ} 0 1 = cc in absurd (omega arith)
+      by (Err r) f e = let z : ◌≡◌ {A = ℕ} 0 1 = cc in absurd (omega arith)
 
   pub not_text : at + 2 + word_at s at ≤ length s → (IsText (part_of s (span_at s at)) → ⊥) → string_answer (string_at s at) ≡ refused_as 18 0
   not_text h n = by (well_formed (part_of s (span_at s at))) refl

@@ -6,15 +6,15 @@ use borrow.Author.Tests.{eqb-true}
 use lib.Dec.{eqb}
 use Rattle.codec.specs.Submessages.{kind_byte, kind_of, code_byte, code_of}
 use Rattle.codec.specs.declared.refusals.Refusal.TheVariants.{UnknownObjectKind, UnknownStatusCode}
-use Rattle.codec.specs.declared.submessages.KindRead.{KindRead}
-use Rattle.codec.specs.declared.submessages.KindRead.TheVariants as kind-read
-use Rattle.codec.specs.declared.submessages.CodeRead.{CodeRead}
-use Rattle.codec.specs.declared.submessages.CodeRead.TheVariants as code-read
 use Rattle.codec.proofs.Either.{either}
+use Rattle.std.specs.Prelude.{Err, Ok, Result}
+use Rattle.codec.specs.declared.submessages.ObjectKind.{ObjectKind}
+use Rattle.codec.specs.declared.refusals.Refusal.{Refusal}
+use Rattle.codec.specs.declared.submessages.StatusCode.{StatusCode}
 
-abbrev pub KindIs : ℕ → KindRead → Type 0
-KindIs b (kind-read.Kind k) = kind_byte k ≡ b
-KindIs b (kind-read.Refused r) = r ≡ UnknownObjectKind b
+abbrev pub KindIs : ℕ → Result ObjectKind Refusal → Type 0
+KindIs b (Ok k) = kind_byte k ≡ b
+KindIs b (Err r) = r ≡ UnknownObjectKind b
 
 pub kind_is : (b : ℕ) → KindIs b (kind_of b)
 unfolding kind_of
@@ -28,9 +28,9 @@ kind_is b =
     either P (eqb b 5) _ _ (own 5) (λ _.
     either P (eqb b 6) _ _ (own 6) (λ _. refl))))))
 
-abbrev pub CodeIs : ℕ → CodeRead → Type 0
-CodeIs b (code-read.Code k) = code_byte k ≡ b
-CodeIs b (code-read.Refused r) = r ≡ UnknownStatusCode b
+abbrev pub CodeIs : ℕ → Result StatusCode Refusal → Type 0
+CodeIs b (Ok k) = code_byte k ≡ b
+CodeIs b (Err r) = r ≡ UnknownStatusCode b
 
 pub code_is : (b : ℕ) → CodeIs b (code_of b)
 unfolding code_of

@@ -121,3 +121,6 @@ module _ (s : List ℕ) (at n : ℕ) (h : at < length s) (e : n ≡ character_le
   well_goes_on z =
       subst (λ (l : List ℕ). (character_len l ≡ 0 → ⊥) → well_from [] l ≡ well_from [] (drop (character_len l) l)) (sym (drop-cons s at 0 h)) (len_well (get_or s at 0) (drop (suc at) s)).1 (λ q. z (e ∙ q))
       ∙ rw (← e, drop-drop n at s)
+
+-- what a character needs, by its cases
+pub ruleset fit_laws = (fits_none, fits_one, fits_two, fits_three, fits_below, fits_above)

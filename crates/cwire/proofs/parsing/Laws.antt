@@ -3,6 +3,8 @@ use Prim.Native.Nat.{ℕ, suc, ◌+◌, ◌≤◌, ◌<◌}
 use mathlib.Core.Path.{◌≡◌, refl, sym, ap, ◌∙◌}
 use mathlib.Core.Bool.{Bool, true, false, cond}
 use mathlib.Core.List.{List, [], ◌∷◌, ◌++◌, append_assoc}
+use native.Mathlib.Decide.{dec_le}
+use native.Mathlib.Nat.{lt_of_not-le}
 use native.Mathlib.Numerals.{add-one}
 use native.Mathlib.Omega.{arith}
 use borrow.Author.Tests.{lt-ltb, le-ltb}
@@ -15,14 +17,13 @@ use Rattle.codec.specs.Reading.{Item, Items, items, stopped, before, items_at, r
 use Rattle.codec.specs.declared.header.MessageHeader.{MessageHeader}
 use Rattle.codec.specs.declared.layouts.Span.{Span}
 use Rattle.codec.specs.declared.layouts.Cursor.{Cursor}
-use Rattle.codec.specs.declared.layouts.Parsed.TheVariants.{Sub, Refused}
-use Rattle.codec.specs.declared.reading.Checked.TheVariants as checked
 use Rattle.codec.specs.declared.refusals.Refusal.{Refusal}
 use Rattle.codec.specs.declared.refusals.Refusal.TheVariants.{BufferTooShort}
 use Rattle.codec.specs.declared.submessages.Submessage.{Submessage}
 use Rattle.codec.proofs.reading.Laws.{items_more, items_end, read_placed}
 use Rattle.cwire.specs.Answer.{packed}
 use Rattle.cwire.specs.Rows.{row_of, rows_from, rows_put, listed, parse_of, parse_rows}
+use Rattle.std.specs.Prelude.{Err, Ok}
 
 -- ---- the rows, one for each submessage
 
@@ -57,44 +58,48 @@ before_items x (items xs) e = (refl, refl)
 before_items x (stopped r) e = let z : ◌≡◌ {A = ℕ} 0 1 = cc in absurd (omega arith)
 
 module _ (s : List ℕ) (rows₀ rows : List (List ℕ)) (n here : ℕ) (g : Going s rows₀ rows n here) where
-  -- a submessage that is read has a row, and the next one begins behind it
-  pub record Next (m : Submessage) (x : Span) (c : Cursor) : Type 0 where
-    pub inside : n < length rows
-    pub going : Going s rows₀ (set rows n (row_of here m x)) (n + 1) c.at
-
-  pub going_sub : (m : Submessage) (x : Span) (c : Cursor) → here < length s → read_at s here ≡ Sub m x c → Next m x c
-  unfolding rows_from
-  going_sub m x c k e =
+  -- a submessage that is read has a row
+  pub inside : (m : Submessage) (x : Span) (c : Cursor) → read_at s here ≡ Ok (m, x, c) → n < length rows
+  inside m x c e =
+      let p = read_placed s here m x c e in
       let i : Item = record { says = m; span = x } in
-      let closed : x.start + x.len ≡ c.at = (read_placed s here m x c e).closed in
-      let more : items_at s here ≡ before i (items_at s c.at) = rw e at (items_more s here k) in
+      let more : items_at s here ≡ before i (items_at s c.at) = rw e at (items_more s here (omega arith)) in
+      let one : listed (items_at s here) ≡ i ∷ listed (items_at s c.at) = ap listed more ∙ (before_items i (items_at s c.at) (rw more at g.left)).1 in
+      omega (arith, rw one at g.room)
+
+  -- a submessage that is read has a row, and the next one begins behind it
+  pub going_sub : (m : Submessage) (x : Span) (c : Cursor) → read_at s here ≡ Ok (m, x, c) → Going s rows₀ (set rows n (row_of here m x)) (n + 1) c.at
+  unfolding rows_from
+  going_sub m x c e =
+      let p = read_placed s here m x c e in
+      let i : Item = record { says = m; span = x } in
+      let more : items_at s here ≡ before i (items_at s c.at) = rw e at (items_more s here (omega arith)) in
       let split = before_items i (items_at s c.at) (rw more at g.left) in
       let one : listed (items_at s here) ≡ i ∷ listed (items_at s c.at) = ap listed more ∙ split.1 in
       let inside : n < length rows = omega (arith, rw one at g.room) in
-      let was = rw (one, closed) at g.whole in
+      let was = rw (one, p.closed) at g.whole in
       record {
-        inside = inside;
-        going = record {
-          left = split.0;
-          room = rw (length-set rows n (row_of here m x)) (omega (arith, rw one at g.room));
-          same = length-set rows n (row_of here m x) ∙ g.same;
-          whole = laid_row rows n (row_of here m x) (rows_from c.at (listed (items_at s c.at))) (length (listed (items_at s c.at))) inside ∙ was;
-        };
+        left = split.0;
+        room = rw (length-set rows n (row_of here m x)) (omega (arith, rw one at g.room));
+        same = length-set rows n (row_of here m x) ∙ g.same;
+        whole = laid_row rows n (row_of here m x) (rows_from c.at (listed (items_at s c.at))) (length (listed (items_at s c.at))) inside ∙ was;
       }
 
-  -- a datagram that is accepted has no submessage that is refused
-  pub going_refused : (r : Refusal) → here < length s → read_at s here ≡ Refused r → ⊥
-  going_refused r k e =
-      let stop : items_at s here ≡ stopped r = rw e at (items_more s here k) in
-      let z : ◌≡◌ {A = ℕ} 0 1 = cc g.left in
-      omega arith
-
-  pub going_end : length s ≤ here → rows ≡ rows_put rows₀ (listed (items_at s 4))
+  -- no submessage is left: all rows are there
+  going_none_left : listed (items_at s here) ≡ [] → rows ≡ rows_put rows₀ (listed (items_at s 4))
   unfolding rows_from
-  going_end k =
-      let none : listed (items_at s here) ≡ [] = ap listed (items_end s here k) in
-      let e : n + 0 ≡ n = omega arith in
-      sym (take-append-drop n rows) ∙ rw (none, e) at g.whole
+  going_none_left none = let e : n + 0 ≡ n = omega arith in sym (take-append-drop n rows) ∙ rw (none, e) at g.whole
+
+  -- a datagram that is accepted has no submessage that is refused, so where none is read, it ends
+  pub going_end : (r : Refusal) → read_at s here ≡ Err r → rows ≡ rows_put rows₀ (listed (items_at s 4))
+  going_end r e =
+      elim (dec_le (length s) here) [
+        | yes k ↦ going_none_left (ap listed (items_end s here k))
+        | no k ↦
+            let stop : items_at s here ≡ stopped r = rw e at (items_more s here (lt_of_not-le k)) in
+            let z : ◌≡◌ {A = ℕ} 0 1 = cc g.left in
+            absurd (omega arith)
+      ]
 
 -- ---- what the check tells
 
@@ -106,13 +111,15 @@ pub record Accepted (s : List ℕ) (n : ℕ) : Type 0 where
   pub enough : (rows : List (List ℕ)) → n ≤ length rows
       → (packed (gives n) ≡ parse_of s rows) × (rows_put rows (listed (items_at s 4)) ≡ parse_rows s rows)
 
-accepted_is : (g h : MessageHeader) (n : ℕ) (head : Bool) (i : Items) → checked_of (cond head (refused BufferTooShort) (under g i)) ≡ checked.Message h n
+accepted_is : (g h : MessageHeader) (n : ℕ) (head : Bool) (i : Items) → checked_of (cond head (refused BufferTooShort) (under g i)) ≡ Ok (h, n)
     → (i ≡ items (listed i)) × ((length (listed i) ≡ n) × (cond head (refused BufferTooShort) (under g i) ≡ message g (listed i)))
 accepted_is g h n true i e = let z : ◌≡◌ {A = ℕ} 0 1 = cc in absurd (omega arith)
-accepted_is g h n false (items xs) e = (refl, (cc, refl))
+accepted_is g h n false (items xs) e =
+    let both : ◌≡◌ {A = MessageHeader × ℕ} (g, length xs) (h, n) = cc in
+    (refl, (ap (λ (p : MessageHeader × ℕ). p.1) both, refl))
 accepted_is g h n false (stopped r) e = let z : ◌≡◌ {A = ℕ} 0 1 = cc in absurd (omega arith)
 
-pub check_accepts : (s : List ℕ) (h : MessageHeader) (n : ℕ) → check_of s ≡ checked.Message h n → Accepted s n
+pub check_accepts : (s : List ℕ) (h : MessageHeader) (n : ℕ) → check_of s ≡ Ok (h, n) → Accepted s n
 unfolding check_of message_of parse_of parse_rows
 check_accepts s h n e =
     let a = accepted_is (header_of s) h n (leb (length s) 4) (items_at s 4) e in
@@ -123,13 +130,13 @@ check_accepts s h n e =
       enough = λ rows k. (rw (a.1.1, a.1.0, le-ltb (length rows) n k), rw (a.1.1, a.1.0, le-ltb (length rows) n k));
     }
 
-refused_is : (g : MessageHeader) (head : Bool) (i : Items) (r : Refusal) → checked_of (cond head (refused BufferTooShort) (under g i)) ≡ checked.Refused r
+refused_is : (g : MessageHeader) (head : Bool) (i : Items) (r : Refusal) → checked_of (cond head (refused BufferTooShort) (under g i)) ≡ Err r
     → cond head (refused BufferTooShort) (under g i) ≡ refused r
 refused_is g true i r e = let k : BufferTooShort ≡ r = cc in rw k
 refused_is g false (items xs) r e = let z : ◌≡◌ {A = ℕ} 0 1 = cc in absurd (omega arith)
 refused_is g false (stopped q) r e = let k : q ≡ r = cc in rw k
 
-pub check_refuses : (s : List ℕ) (r : Refusal) (rows : List (List ℕ)) → check_of s ≡ checked.Refused r
+pub check_refuses : (s : List ℕ) (r : Refusal) (rows : List (List ℕ)) → check_of s ≡ Err r
     → (packed (refusal r) ≡ parse_of s rows) × (rows ≡ parse_rows s rows)
 unfolding check_of message_of parse_of parse_rows
 check_refuses s r rows e =

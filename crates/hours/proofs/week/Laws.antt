@@ -2,17 +2,17 @@
 use Prim.Native.Nat.{ℕ, zero, suc, ◌+◌, ◌*◌, ◌/◌, ◌%◌, ◌<◌, ◌≤◌}
 use mathlib.Core.Path.{◌≡◌, refl, sym, ap, ◌∙◌}
 use mathlib.Core.Bool.{Bool, true, false, cond, not}
-use mathlib.Core.Option.{none, some}
 use mathlib.Core.List.{List, [], ◌∷◌, ◌++◌}
 use native.Mathlib.Omega.{arith}
 use borrow.Author.Tests.{le-leb, lt-leb, leb-true, ltb-false}
 use lib.Dec.{eqb, ltb, leb}
-use lib.ListN.{length, get_or, drop, set, length-append, length-drop, get_or-eq_default}
-use Rattle.codec.specs.declared.refusals.Refusal.TheVariants.{OverLimit, NoSuchMinute}
+use lib.ListN.{length, get_or, take, drop, set, length-append, length-drop, drop_of_length-le}
+use lib.Seq.{length-take-le}
+use mathlib.Core.List.{append-nil}
 use Rattle.hours.specs.Windows.{Window, week_minutes, is_open}
-use Rattle.hours.specs.Week.{is_minute, open_byte, minutes_from, kept_hours, open_in, minute_after, first_open_from, first_open, found_as, first_open_of}
-use Rattle.hours.specs.declared.week.FirstOpen.TheVariants.{Refused}
-use Rattle.hours.proofs.windows.Laws.{false_true}
+use Rattle.hours.specs.Week.{is_minute, open_byte, minutes_from, kept_hours, open_in, minute_after, first_open_from}
+use Rattle.std.proofs.lemmas.Bool.{false≢true}
+use Rattle.std.specs.Prelude.{Some}
 
 -- ---- what is a minute of the week
 
@@ -20,7 +20,7 @@ pub is_minute_lem : (day minute : ℕ) → is_minute day minute ≡ true → (da
 is_minute_lem day minute e = go (ltb 6 day) refl e
   where
     go : (b : Bool) → ltb 6 day ≡ b → cond b false (leb minute 1439) ≡ true → (day ≤ 6) × (minute ≤ 1439)
-    go true p q = absurd (false_true q)
+    go true p q = absurd (false≢true q)
     go false p q = (ltb-false 6 day p, leb-true minute 1439 q)
 
 -- ---- the store, a minute further
@@ -64,41 +64,26 @@ module _ (ws : List Window) where
   unfolding kept_until kept_hours
   kept_week hours h = sym (ap (λ (b : Bool). cond b (minutes_from ws 0 week_minutes ++ drop week_minutes hours) hours) (le-leb week_minutes (length hours) h))
 
+  -- the same of the week's part alone, before what stands behind it
+  pub kept_front : (hours : List ℕ) → week_minutes ≤ length hours → kept_until week_minutes (take week_minutes hours) ++ drop week_minutes hours ≡ kept_hours ws hours
+  unfolding kept_until
+  kept_front hours h =
+      let none : drop week_minutes (take week_minutes hours) ≡ [] = drop_of_length-le (take week_minutes hours) {i = week_minutes} (omega (arith, length-take-le week_minutes hours h)) in
+      rw (none, append-nil) (kept_week hours h)
+
   pub kept_short : (hours : List ℕ) → length hours < week_minutes → hours ≡ kept_hours ws hours
   unfolding kept_hours
   kept_short hours h = sym (ap (λ (b : Bool). cond b (minutes_from ws 0 week_minutes ++ drop week_minutes hours) hours) (lt-leb week_minutes (length hours) h))
 
 -- ---- one minute looked up
 
-module _ (hours : List ℕ) (day minute : ℕ) where
-  pub look_up : (b : Bool) → is_minute day minute ≡ b → open_in hours day minute ≡ cond b (not (eqb (get_or hours (1440 * day + minute) 0) 0)) false
-  unfolding open_in
-  look_up b e = ap (λ (x : Bool). cond x (not (eqb (get_or hours (1440 * day + minute) 0) 0)) false) e
-
-  pub look_past : is_minute day minute ≡ true → length hours ≤ 1440 * day + minute → open_in hours day minute ≡ false
-  look_past e h = look_up true e ∙ ap (λ (b : ℕ). not (eqb b 0)) (get_or-eq_default hours 0 h)
+pub look_up : (hours : List ℕ) (day minute : ℕ) (b : Bool) → is_minute day minute ≡ b → open_in hours day minute ≡ cond b (not (eqb (get_or hours (1440 * day + minute) 0) 0)) false
+unfolding open_in
+look_up hours day minute b e = ap (λ (x : Bool). cond x (not (eqb (get_or hours (1440 * day + minute) 0) 0)) false) e
 
 -- ---- the search, a minute further
 
 module _ (opens : ℕ → ℕ → Bool) (t : ℕ × ℕ) where
-  pub search_by : (m n : ℕ) → n ≡ suc m → (b : Bool) → opens t.0 t.1 ≡ b → first_open_from opens t n ≡ cond b (some t) (first_open_from opens (minute_after t) m)
+  pub search_by : (m n : ℕ) → n ≡ suc m → (b : Bool) → opens t.0 t.1 ≡ b → first_open_from opens t n ≡ cond b (Some t) (first_open_from opens (minute_after t) m)
   unfolding first_open_from
-  search_by m n e b o = ap (λ (k : ℕ). first_open_from opens t k) e ∙ ap (λ (x : Bool). cond x (some t) (first_open_from opens (minute_after t) m)) o
-
-  pub search_end : first_open_from opens t 0 ≡ none
-  unfolding first_open_from
-  search_end = refl
-
--- ---- the answer
-
-module _ (hours : List ℕ) (day minute : ℕ) where
-  pub answer_short : length hours < week_minutes → Refused OverLimit ≡ first_open_of hours day minute
-  unfolding first_open_of
-  answer_short h = sym (ap (λ (b : Bool). cond b (cond (is_minute day minute) (found_as (first_open (open_in hours) day minute)) (Refused NoSuchMinute)) (Refused OverLimit)) (lt-leb week_minutes (length hours) h))
-
-  pub answer_by : (b : Bool) → week_minutes ≤ length hours → is_minute day minute ≡ b → cond b (found_as (first_open (open_in hours) day minute)) (Refused NoSuchMinute) ≡ first_open_of hours day minute
-  unfolding first_open_of
-  answer_by b h e =
-      sym
-      (ap (λ (x : Bool). cond x (cond (is_minute day minute) (found_as (first_open (open_in hours) day minute)) (Refused NoSuchMinute)) (Refused OverLimit)) (le-leb week_minutes (length hours) h)
-      ∙ ap (λ (x : Bool). cond x (found_as (first_open (open_in hours) day minute)) (Refused NoSuchMinute)) e)
+  search_by m n e b o = ap (λ (k : ℕ). first_open_from opens t k) e ∙ ap (λ (x : Bool). cond x (Some t) (first_open_from opens (minute_after t) m)) o

@@ -9,12 +9,13 @@ use native.Mathlib.Omega.{arith}
 use lib.ListN.{get_or, length, take, set, length-append}
 use lib.Seq.{sets, length-sets, set_out, take-length}
 use Rattle.codec.specs.Bytes.{put_of, put_bytes}
-use Rattle.codec.specs.declared.bytes.Written.TheVariants.{Bytes, Refused}
 use Rattle.codec.specs.declared.refusals.Refusal.TheVariants.{OutputTooShort}
 use Rattle.codec.proofs.bytes.Laws.{put_sets, put_short, put_fits}
-use Rattle.listing.specs.Text.{reach, Put}
+use Rattle.listing.specs.Text.{reach, Put, Adds}
 use Rattle.listing.specs.Decimal.{decimal_of}
+use Rattle.listing.specs.declared.text.Page.{Page}
 use Rattle.listing.specs.Lines.{fields_of, line_of}
+use Rattle.std.specs.Prelude.{Err, Ok}
 
 -- ---- how far a text comes
 
@@ -127,6 +128,16 @@ module _ (out : List ℕ) (at b : ℕ) where
   pub put_placed : (write : Bool) → write ≡ true → at < length out → Put write out at (b ∷ []) (at + 1) (set out at b)
   put_placed write w h = record { end = sym (reach_fits (length out + 1) at 1 (omega arith)); bytes = rw w }
 
+-- ---- pages
+
+pub adds_none : (p : Page) → Adds p [] p
+adds_none p = record { put = put_none p.write p.out.now p.at; write = refl; out = refl }
+
+pub adds_then : {p q r : Page} {a b : List ℕ} → Adds p a q → Adds q b r → Adds p (a ++ b) r
+adds_then {p} {q} {r} {a} {b} f g =
+    let there : Put p.write q.out.now q.at b r.at r.out.now = rw f.write at g.put in
+    record { put = put_then f.put there; write = g.write ∙ f.write; out = g.out ∙ f.out }
+
 -- ---- a text at the start: what its measure says, and what it leaves
 
 module _ (out text : List ℕ) (end : ℕ) (out₁ : List ℕ) (write : Bool) (measured : Put write out 0 text end out₁) (quiet : write ≡ false) where
@@ -139,7 +150,7 @@ module _ (out text : List ℕ) (end : ℕ) (out₁ : List ℕ) (write : Bool) (m
     λ h. measured.end ∙ reach_over (length out + 1) 0 (length text) (omega arith) (omega arith),
   )
 
-  pub text_short : length out < end → (Refused OutputTooShort ≡ put_of out 0 text) × (out₁ ≡ put_bytes out 0 text)
+  pub text_short : length out < end → (Err OutputTooShort ≡ put_of out 0 text) × (out₁ ≡ put_bytes out 0 text)
   text_short h =
       rw kept
       (elim (dec_le (length text) (length out)) [
@@ -147,7 +158,7 @@ module _ (out text : List ℕ) (end : ℕ) (out₁ : List ℕ) (write : Bool) (m
         | no k ↦ put_short out 0 text (omega arith)
       ])
 
-  pub text_fits : end ≤ length out → (e : ℕ) (out₂ : List ℕ) → Put true out₁ 0 text e out₂ → (Bytes end ≡ put_of out 0 text) × (out₂ ≡ put_bytes out 0 text)
+  pub text_fits : end ≤ length out → (e : ℕ) (out₂ : List ℕ) → Put true out₁ 0 text e out₂ → (Ok end ≡ put_of out 0 text) × (out₂ ≡ put_bytes out 0 text)
   text_fits h e out₂ p =
       elim (dec_le (length text) (length out)) [
         | yes k ↦

@@ -13,12 +13,7 @@ use lib.ListN.{length, take, drop}
 use lib.Seq.{length-take-le, take_at, drop_at}
 use Rattle.codec.specs.Bytes.{put_at}
 use Rattle.codec.specs.Reassembly.{new_of, new_lengths, insert_of, insert_slots, insert_lengths, assemble_of, assemble_out}
-use Rattle.codec.specs.declared.bytes.Written.{Written}
 use Rattle.codec.specs.declared.reassembly.ReassemblyBuffer.{ReassemblyBuffer}
-use Rattle.codec.specs.declared.reassembly.StoreMade.{StoreMade}
-use Rattle.codec.specs.declared.reassembly.StoreMade.TheVariants as made
-use Rattle.codec.specs.declared.reassembly.Inserted.{Inserted}
-use Rattle.codec.specs.declared.reassembly.Inserted.TheVariants as inserted
 use Rattle.codec.specs.declared.refusals.Refusal.TheVariants.{OverLimit}
 use Rattle.streams.proofs.Slots.{read_before, read_behind}
 use Rattle.sessions.specs.FragmentStore.{allowed}
@@ -29,8 +24,9 @@ use Rattle.sessions.specs.declared.fragments.Gathered.{Gathered}
 use Rattle.sessions.specs.declared.fragments.Gathered.TheVariants.{Nothing}
 use Rattle.sessions.specs.declared.sending.Stretch.{Stretch}
 use Rattle.sessions.specs.declared.table.ClientSession.{ClientSession}
-use Rattle.sessions.specs.declared.table.Named.{Named}
 use Rattle.sessions.proofs.Buffers.{with_put}
+use Rattle.std.specs.Prelude.{Err, Ok, Result}
+use Rattle.codec.specs.declared.refusals.Refusal.{Refusal}
 
 -- ---- where the part of a slot stands
 
@@ -39,29 +35,8 @@ module _ (width slot store : ℕ) where
   abbrev pub Stands : Stretch → Type 0
   Stands b = (b ≡ slot_stretch width slot store) × (b.start ≤ b.end) × (b.end ≤ store) × (b.end - b.start ≤ width)
 
-  none_stands : cond (leb slot 255) (leb (width * suc slot) store) false ≡ false → Stands (record { start = 0; end = 0 })
-  none_stands e = (rw e, omega arith, omega arith, omega arith)
-
-  pub past_stands : 255 < slot → Stands (record { start = 0; end = 0 })
-  past_stands h = none_stands (rw (lt-leb slot 255 h))
-
-  pub short_stands : slot ≤ 255 → store < width * (slot + 1) → Stands (record { start = 0; end = 0 })
-  short_stands l h = none_stands (rw (le-leb slot 255 l, lt-leb (width * suc slot) store (rw (add-one slot) at h)))
-
   pub has_slot_lem : slot ≤ 255 → width * (slot + 1) ≤ store → slot_stretch width slot store ≡ record { start = width * slot; end = width * suc slot }
   has_slot_lem l h = rw (le-leb slot 255 l, le-leb (width * suc slot) store (rw (add-one slot) at h))
-
-  pub slot_stands : slot ≤ 255 → width * (slot + 1) ≤ store → Stands (record { start = width * slot; end = width * (slot + 1) })
-  slot_stands l h =
-      let next : width * (slot + 1) ≡ width * slot + width = ap (λ (n : ℕ). width * n) (add-one slot) ∙ mul-suc width slot in (
-        ap (λ (n : ℕ). record { start = width * slot; end = width * n }) (add-one slot) ∙ sym (has_slot_lem l h),
-        omega (arith, next),
-        h,
-        omega (arith, next),
-      )
-
-  pub slot_small : width ≤ 32768 → slot ≤ 255 → width * (slot + 1) ≤ 8388608
-  slot_small w l = let n : slot + 1 ≤ 256 = omega arith in mul-le-mul w n
 
   -- it lies within the store
   pub stretch_stands : Stands (slot_stretch width slot store)
@@ -124,26 +99,13 @@ slot_apart width i j n store part =
         go true q = part_behind store (stretch true i) (ordered i) h part e (stretch true j) (apart i j (ltb-true i j q))
         go false q = part_before store (stretch true i) (ordered i) h part e (stretch true j) (ordered j) (apart j i (omega (arith, ltb-false i j q, n)))
 
--- the lengths of a session begin early enough for their bytes to be counted
-pub lengths_low : (s : ClientSession) (lengths : ℕ) (b : Stretch) → b ≡ lengths_stretch s lengths → b.start ≤ 16320
-lengths_low s lengths b e = rw e (by (leb s.slot 255) (leb (64 * suc s.slot) lengths) refl)
-  where
-    by : (x y : Bool) → leb s.slot 255 ≡ x → (cond {A = Stretch} (cond x y false) (record { start = 64 * s.slot; end = 64 * suc s.slot }) (record { start = 0; end = 0 })).start ≤ 16320
-    by true true f = let h = leb-true s.slot 255 f in omega arith
-    by true false f = omega arith
-    by false y f = omega arith
-
 -- ---- the store that a fragment goes into
 
 module _ (s : ClientSession) (total : ℕ) (parts lengths : List ℕ) where
-  abbrev pub Chosen : StoreMade → List ℕ → Type 0
+  abbrev pub Chosen : Result ReassemblyBuffer Refusal → List ℕ → Type 0
   Chosen m ls = (m ≡ store_for s total parts lengths) × (ls ≡ lengths_for s total parts lengths)
 
-  pub over_chosen : s.total ≡ total → 64 < s.received → Chosen (made.Refused OverLimit) lengths
-  unfolding store_for lengths_for
-  over_chosen e h = rw (eq-eqb s.total total e, lt-leb s.received 64 h) (refl, refl)
-
-  pub kept_chosen : s.total ≡ total → s.received ≤ 64 → Chosen (made.Store (buffer_with total s.received)) lengths
+  pub kept_chosen : s.total ≡ total → s.received ≤ 64 → Chosen (Ok (buffer_with total s.received)) lengths
   unfolding store_for lengths_for
   kept_chosen e h = rw (eq-eqb s.total total e, le-leb s.received 64 h) (refl, refl)
 
@@ -152,7 +114,7 @@ module _ (s : ClientSession) (total : ℕ) (parts lengths : List ℕ) where
   new_chosen n = rw (ne_eqb s.total total n) (refl, refl)
 
   -- what a fragment comes to with it
-  pub gather_by : (rebuilt : List ℕ) (nr : ℕ) (body : List ℕ) (m : StoreMade) (ls : List ℕ) → Chosen m ls
+  pub gather_by : (rebuilt : List ℕ) (nr : ℕ) (body : List ℕ) (m : Result ReassemblyBuffer Refusal) (ls : List ℕ) → Chosen m ls
       → (gathered_with m parts ls rebuilt nr body ≡ gathered_in s parts lengths rebuilt nr total body)
       × (parts_with m parts ls nr body ≡ parts_after s parts lengths nr total body)
       × (lengths_with m parts ls nr body ≡ lengths_after s parts lengths nr total body)
@@ -165,32 +127,7 @@ module _ (s : ClientSession) (total : ℕ) (parts lengths : List ℕ) where
     λ i. rebuilt_with (e.0 i) parts (e.1 i) rebuilt nr body,
   )
 
--- ---- an insert, and what its answer comes to
-
-pub insert_by_lem : (b : ReassemblyBuffer) (parts lengths rebuilt : List ℕ) (nr : ℕ) (body : List ℕ) (i : Inserted) (ps ls : List ℕ)
-    → i ≡ insert_of b parts lengths nr body → ps ≡ insert_slots b parts lengths nr body → ls ≡ insert_lengths b parts lengths nr body → (m : StoreMade) → m ≡ made.Store b
-    → (gathered_by i ps ls rebuilt ≡ gathered_with m parts lengths rebuilt nr body)
-    × (ps ≡ parts_with m parts lengths nr body)
-    × (ls ≡ lengths_with m parts lengths nr body)
-    × (rebuilt_by i ps ls rebuilt ≡ rebuilt_with m parts lengths rebuilt nr body)
-insert_by_lem b parts lengths rebuilt nr body i ps ls e f g m h = (
-  (λ k. gathered_by (e k) (f k) (g k) rebuilt) ∙ ap (λ (x : StoreMade). gathered_with x parts lengths rebuilt nr body) (sym h),
-  f ∙ ap (λ (x : StoreMade). parts_with x parts lengths nr body) (sym h),
-  g ∙ ap (λ (x : StoreMade). lengths_with x parts lengths nr body) (sym h),
-  (λ k. rebuilt_by (e k) (f k) (g k) rebuilt) ∙ ap (λ (x : StoreMade). rebuilt_with x parts lengths rebuilt nr body) (sym h),
-)
-
--- where the last missing number came
-pub assemble_by_lem : (all : Bool) (b : ReassemblyBuffer) (parts lengths rebuilt out : List ℕ) (w : Written) → all ≡ true
-    → w ≡ assemble_of b parts lengths rebuilt → out ≡ assemble_out b parts lengths rebuilt
-    → (assembled_as w b ≡ gathered_by (inserted.Held b all) parts lengths rebuilt) × (out ≡ rebuilt_by (inserted.Held b all) parts lengths rebuilt)
-assemble_by_lem all b parts lengths rebuilt out w e f g = rw e (ap (λ (x : Written). assembled_as x b) f, g)
-
 -- ---- a fragment of a session
-
-module _ (sessions : List (List ℕ)) (id nr total len : ℕ) where
-  pub takes_by : (n : Named) → n ≡ named_of sessions id → cond (is_live n) (allowed nr total len) false ≡ takes sessions id nr total len
-  takes_by n e = ap (λ (x : Named). cond (is_live x) (allowed nr total len) false) e
 
 module _ (sessions : List (List ℕ)) (parts lengths rebuilt : List ℕ) (id nr total : ℕ) (body : List ℕ) where
   -- the answer and the stores behind it
@@ -222,20 +159,3 @@ module _ (sessions : List (List ℕ)) (parts lengths rebuilt : List ℕ) (id nr 
       λ i. with_buffer lengths (eb i) (lengths_after (its i) (buffer_in parts (ea i)) (buffer_in lengths (eb i)) nr total body),
       λ i. rebuilt_after (its i) (buffer_in parts (ea i)) (buffer_in lengths (eb i)) rebuilt nr total body,
     )
-
-    pub taken : (g : Gathered) (after : ClientSession) (rows : List (List ℕ)) (ps ls out : List ℕ)
-        → g ≡ gathered_in s (buffer_in parts a) (buffer_in lengths b) rebuilt nr total body
-        → after ≡ gathered_session s g
-        → rows ≡ keep_session sessions id after
-        → ps ≡ parts_after s (buffer_in parts a) (buffer_in lengths b) nr total body
-        → ls ≡ lengths_after s (buffer_in parts a) (buffer_in lengths b) nr total body
-        → out ≡ rebuilt_after s (buffer_in parts a) (buffer_in lengths b) rebuilt nr total body
-        → Comes g rows (with_buffer parts a ps) (with_buffer lengths b ls) out
-    taken g after rows ps ls out eg eafter erows eps els eout =
-        let t = taken_is in (
-          eg ∙ t.0,
-          erows ∙ ap (keep_session sessions id) (eafter ∙ ap (gathered_session s) eg) ∙ t.1,
-          ap (with_buffer parts a) eps ∙ t.2,
-          ap (with_buffer lengths b) els ∙ t.3,
-          eout ∙ t.4,
-        )

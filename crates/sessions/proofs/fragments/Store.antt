@@ -3,8 +3,6 @@ use Prim.Native.Nat.{ℕ, zero, suc, ◌*◌, ◌<◌, ◌≤◌}
 use mathlib.Core.Path.{◌≡◌, refl, sym, ap, ◌∙◌, subst}
 use mathlib.Core.Logic.{◌≢◌}
 use mathlib.Core.Bool.{Bool, true, false, cond}
-use mathlib.Core.Option
-use mathlib.Core.Option.{Option, none, some}
 use mathlib.Core.List.{List, [], ◌∷◌, ◌++◌, map}
 use native.Mathlib.Omega.{arith}
 use borrow.Author.Tests.{leb-true, ltb-true, lt-ltb, le-ltb, eqb-true, eqb-false, eq-eqb}
@@ -15,12 +13,7 @@ use Rattle.codec.specs.Bytes.{put_at}
 use Rattle.codec.specs.Cutting.{joined}
 use Rattle.codec.specs.Reassembly.{under_need, new_of, new_lengths, grown, insert_of, insert_slots, insert_lengths, payload_of}
 use Rattle.codec.specs.Inserts.{Store, Piece, insert_into, inserts, Slot, free, holds, slots_of, slots_in, held_in, Sound}
-use Rattle.codec.specs.declared.bytes.Written.{Written}
 use Rattle.codec.specs.declared.reassembly.ReassemblyBuffer.{ReassemblyBuffer}
-use Rattle.codec.specs.declared.reassembly.StoreMade.{StoreMade}
-use Rattle.codec.specs.declared.reassembly.StoreMade.TheVariants as made
-use Rattle.codec.specs.declared.reassembly.Inserted.{Inserted}
-use Rattle.codec.specs.declared.reassembly.Inserted.TheVariants as inserted
 use Rattle.codec.specs.declared.refusals.Refusal.TheVariants.{OverLimit}
 use Rattle.codec.proofs.reassembly.Laws as codec
 use Rattle.codec.proofs.reassembly.View.{body_in, held_most, length_slots}
@@ -34,6 +27,9 @@ use Rattle.sessions.specs.declared.fragments.Gathered.TheVariants.{Nothing, Held
 use Rattle.sessions.specs.declared.table.ClientSession.{ClientSession}
 use Rattle.sessions.proofs.Steps.{no_fragments}
 use Rattle.sessions.proofs.fragments.Laws.{Chosen, kept_chosen, new_chosen, gather_by}
+use Rattle.std.specs.Option.{option_map}
+use Rattle.std.specs.Prelude.{Err, Ok, Result, Option, None, Some}
+use Rattle.codec.specs.declared.refusals.Refusal.{Refusal}
 
 -- ---- a fragment that is allowed
 
@@ -63,15 +59,15 @@ few_bytes : (b : ReassemblyBuffer) → Few b → b.total_fragments * b.width ≤
 few_bytes b f = let h = f.0 in rw f.1 (omega (arith, h))
 
 -- the store that a fragment goes into is one of its total
-abbrev FewMade : StoreMade → Type 0
-FewMade (made.Store b) = Few b
-FewMade (made.Refused r) = Unit {0}
+abbrev FewMade : Result ReassemblyBuffer Refusal → Type 0
+FewMade (Ok b) = Few b
+FewMade (Err r) = Unit {0}
 
 store_few : (s : ClientSession) (total : ℕ) (parts lengths : List ℕ) → total ≤ 64 → FewMade (store_for s total parts lengths)
 unfolding store_for new_of
 store_few s total parts lengths h = by (eqb s.total total) (leb s.received 64) (under_need total 512 (length parts) (length lengths))
   where
-    by : (x y z : Bool) → FewMade (cond x (cond y (made.Store (buffer_with total s.received)) (made.Refused OverLimit)) (cond z (made.Refused OverLimit) (made.Store (buffer_with total 0))))
+    by : (x y z : Bool) → FewMade (cond x (cond y (Ok (buffer_with total s.received)) (Err OverLimit)) (cond z (Err OverLimit) (Ok (buffer_with total 0))))
     by true true z = (h, refl)
     by true false z = Prim.tt
     by false y true = Prim.tt
@@ -82,9 +78,9 @@ module _ (s : ClientSession) (parts lengths : List ℕ) (nr total : ℕ) (body :
   unfolding parts_after
   parts_length = by (store_for s total parts lengths)
     where
-      by : (m : StoreMade) → length (parts_with m parts (lengths_for s total parts lengths) nr body) ≡ length parts
-      by (made.Store b) = (insert_length b parts (lengths_for s total parts lengths) nr body).0
-      by (made.Refused r) = refl
+      by : (m : Result ReassemblyBuffer Refusal) → length (parts_with m parts (lengths_for s total parts lengths) nr body) ≡ length parts
+      by (Ok b) = (insert_length b parts (lengths_for s total parts lengths) nr body).0
+      by (Err r) = refl
 
   for_length : length (lengths_for s total parts lengths) ≡ length lengths
   unfolding lengths_for
@@ -98,9 +94,9 @@ module _ (s : ClientSession) (parts lengths : List ℕ) (nr total : ℕ) (body :
   unfolding lengths_after
   lengths_length = by (store_for s total parts lengths) ∙ for_length
     where
-      by : (m : StoreMade) → length (lengths_with m parts (lengths_for s total parts lengths) nr body) ≡ length (lengths_for s total parts lengths)
-      by (made.Store b) = (insert_length b parts (lengths_for s total parts lengths) nr body).1
-      by (made.Refused r) = refl
+      by : (m : Result ReassemblyBuffer Refusal) → length (lengths_with m parts (lengths_for s total parts lengths) nr body) ≡ length (lengths_for s total parts lengths)
+      by (Ok b) = (insert_length b parts (lengths_for s total parts lengths) nr body).1
+      by (Err r) = refl
 
   pub rebuilt_keeps : (rebuilt : List ℕ) → total ≤ 64 → Keeps 32768 rebuilt (rebuilt_after s parts lengths rebuilt nr total body)
   unfolding rebuilt_after
@@ -109,16 +105,16 @@ module _ (s : ClientSession) (parts lengths : List ℕ) (nr total : ℕ) (body :
       ls : List ℕ
       ls = lengths_for s total parts lengths
 
-      into : (b : ReassemblyBuffer) → Few b → (ps qs : List ℕ) (i : Inserted) → SameStore b i → Keeps 32768 rebuilt (rebuilt_by i ps qs rebuilt)
-      into b f ps qs (inserted.Held after true) e =
+      into : (b : ReassemblyBuffer) → Few b → (ps qs : List ℕ) (i : Result (ReassemblyBuffer × Bool) Refusal) → SameStore b i → Keeps 32768 rebuilt (rebuilt_by i ps qs rebuilt)
+      into b f ps qs (Ok (after, true)) e =
           let h = f.0 in
           assemble_keeps after ps qs rebuilt 32768 (few_bytes after (omega (arith, e.0, h), e.1 ∙ f.1))
-      into b f ps qs (inserted.Held after false) e = (refl, refl)
-      into b f ps qs (inserted.Refused r) e = (refl, refl)
+      into b f ps qs (Ok (after, false)) e = (refl, refl)
+      into b f ps qs (Err r) e = (refl, refl)
 
-      by : (m : StoreMade) → FewMade m → Keeps 32768 rebuilt (rebuilt_with m parts ls rebuilt nr body)
-      by (made.Store b) f = into b f (insert_slots b parts ls nr body) (insert_lengths b parts ls nr body) (insert_of b parts ls nr body) (insert_same b parts ls nr body)
-      by (made.Refused r) f = (refl, refl)
+      by : (m : Result ReassemblyBuffer Refusal) → FewMade m → Keeps 32768 rebuilt (rebuilt_with m parts ls rebuilt nr body)
+      by (Ok b) f = into b f (insert_slots b parts ls nr body) (insert_lengths b parts ls nr body) (insert_of b parts ls nr body) (insert_same b parts ls nr body)
+      by (Err r) f = (refl, refl)
 
 -- ---- the rebuilt bytes of a store's slots
 
@@ -127,17 +123,17 @@ unfolding slots_of
 free_slots width zero slots = refl
 free_slots width (suc n) slots = ap (λ (v : List Slot). free ∷ v) (free_slots width n (drop width slots))
 
-whole_held : (v : List Slot) → held_in v ≡ length v → whole_of v ≡ some (joined (map body_in v))
+whole_held : (v : List Slot) → held_in v ≡ length v → whole_of v ≡ Some (joined (map body_in v))
 unfolding held_in joined body_in
 whole_held [] e = refl
 whole_held (free ∷ more) e = let h = held_most more in absurd (omega arith)
-whole_held (holds body ∷ more) e = ap (Option.map (λ (bytes : List ℕ). body ++ bytes)) (whole_held more (omega arith))
+whole_held (holds body ∷ more) e = ap (option_map (λ (bytes : List ℕ). body ++ bytes)) (whole_held more (omega arith))
 
-whole_lacks : (v : List Slot) → held_in v ≢ length v → whole_of v ≡ none
+whole_lacks : (v : List Slot) → held_in v ≢ length v → whole_of v ≡ None
 unfolding held_in
 whole_lacks [] n = absurd (n refl)
 whole_lacks (free ∷ more) n = refl
-whole_lacks (holds body ∷ more) n = ap (Option.map (λ (bytes : List ℕ). body ++ bytes)) (whole_lacks more (λ e. n (ap suc e)))
+whole_lacks (holds body ∷ more) n = ap (option_map (λ (bytes : List ℕ). body ++ bytes)) (whole_lacks more (λ e. n (ap suc e)))
 
 -- ---- a sound store, and a fragment that is allowed
 
@@ -159,7 +155,7 @@ module _ (s : ClientSession) (ps ls : List ℕ) (sound : Sound (record { buffer 
   record Ready : Type 0 where
     pub received : ℕ
     pub lengths : List ℕ
-    pub chosen : Chosen s total ps ls (made.Store (buffer_with total received)) lengths
+    pub chosen : Chosen s total ps ls (Ok (buffer_with total received)) lengths
     pub good : Sound (record { buffer = buffer_with total received; slots = ps; lengths = lengths })
     pub slots_are : slots_of 512 ps (take total lengths) ≡ slots_for before total
 
@@ -192,11 +188,11 @@ module _ (s : ClientSession) (ps ls : List ℕ) (sound : Sound (record { buffer 
 
   -- what a fragment leaves, and what it completes: by the bytes
   abbrev pub ends : List ℕ → Option (List ℕ) → Type 0
-  ends rebuilt none =
+  ends rebuilt None =
       (count : ℕ)
       × (gathered_in s ps ls rebuilt nr total body ≡ Held (buffer_with total count))
       × Sound (record { buffer = buffer_with total count; slots = parts_after s ps ls nr total body; lengths = lengths_after s ps ls nr total body })
-  ends rebuilt (some bytes) =
+  ends rebuilt (Some bytes) =
       (gathered_in s ps ls rebuilt nr total body ≡ Whole (length bytes))
       × (rebuilt_after s ps ls rebuilt nr total body ≡ put_at rebuilt 0 bytes)
       × (length bytes ≤ 32768)
@@ -223,7 +219,7 @@ module _ (s : ClientSession) (ps ls : List ℕ) (sound : Sound (record { buffer 
     abbrev after : Store
     after = record { buffer = buffer_with total count; slots = slots'; lengths = lengths' }
 
-    held : inserted.Held (buffer_with total count) (eqb count total) ≡ insert_of b ps r.lengths nr body
+    held : Ok ((buffer_with total count), (eqb count total)) ≡ insert_of b ps r.lengths nr body
     held = insert_good total 512 r.received ps r.lengths r.good nr body ok.below ok.short
 
     after_is : insert_into (record { buffer = b; slots = ps; lengths = r.lengths }) p ≡ after
@@ -246,30 +242,30 @@ module _ (s : ClientSession) (ps ls : List ℕ) (sound : Sound (record { buffer 
     many = length_slots 512 slots' (take total lengths') ∙ length-take-le total lengths' after_sound.entries
 
     parts_are : slots' ≡ parts_after s ps ls nr total body
-    parts_are = (gather_by s total ps ls [] nr body (made.Store b) r.lengths r.chosen).1
+    parts_are = (gather_by s total ps ls [] nr body (Ok b) r.lengths r.chosen).1
 
     lengths_are : lengths' ≡ lengths_after s ps ls nr total body
-    lengths_are = (gather_by s total ps ls [] nr body (made.Store b) r.lengths r.chosen).2
+    lengths_are = (gather_by s total ps ls [] nr body (Ok b) r.lengths r.chosen).2
 
     -- the store behind the fragment, as it is shown
     pub slots_left : slots_of 512 (parts_after s ps ls nr total body) (take total (lengths_after s ps ls nr total body)) ≡ slots_with before nr total body
     slots_left = sym (λ i. slots_of 512 (parts_are i) (take total (lengths_are i))) ∙ after_slots
 
     module _ (rebuilt : List ℕ) where
-      answer_is : gathered_in s ps ls rebuilt nr total body ≡ gathered_by (inserted.Held (buffer_with total count) (eqb count total)) slots' lengths' rebuilt
+      answer_is : gathered_in s ps ls rebuilt nr total body ≡ gathered_by (Ok ((buffer_with total count), (eqb count total))) slots' lengths' rebuilt
       answer_is =
-          sym (gather_by s total ps ls rebuilt nr body (made.Store b) r.lengths r.chosen).0
-          ∙ sym (ap (λ (i : Inserted). gathered_by i slots' lengths' rebuilt) held)
+          sym (gather_by s total ps ls rebuilt nr body (Ok b) r.lengths r.chosen).0
+          ∙ sym (ap (λ (i : Result (ReassemblyBuffer × Bool) Refusal). gathered_by i slots' lengths' rebuilt) held)
 
-      rebuilt_is : rebuilt_after s ps ls rebuilt nr total body ≡ rebuilt_by (inserted.Held (buffer_with total count) (eqb count total)) slots' lengths' rebuilt
+      rebuilt_is : rebuilt_after s ps ls rebuilt nr total body ≡ rebuilt_by (Ok ((buffer_with total count), (eqb count total))) slots' lengths' rebuilt
       rebuilt_is =
-          sym (gather_by s total ps ls rebuilt nr body (made.Store b) r.lengths r.chosen).3
-          ∙ sym (ap (λ (i : Inserted). rebuilt_by i slots' lengths' rebuilt) held)
+          sym (gather_by s total ps ls rebuilt nr body (Ok b) r.lengths r.chosen).3
+          ∙ sym (ap (λ (i : Result (ReassemblyBuffer × Bool) Refusal). rebuilt_by i slots' lengths' rebuilt) held)
 
-      lacks : eqb count total ≡ false → ends rebuilt none
+      lacks : eqb count total ≡ false → ends rebuilt None
       lacks e = (
         count,
-        answer_is ∙ ap (λ (x : Bool). gathered_by (inserted.Held (buffer_with total count) x) slots' lengths' rebuilt) e,
+        answer_is ∙ ap (λ (x : Bool). gathered_by (Ok ((buffer_with total count), x)) slots' lengths' rebuilt) e,
         subst Sound (λ i. record { buffer = buffer_with total count; slots = parts_are i; lengths = lengths_are i }) after_sound,
       )
 
@@ -281,20 +277,20 @@ module _ (s : ClientSession) (ps ls : List ℕ) (sound : Sound (record { buffer 
         payload_short : length payload ≤ 32768
         payload_short = let h = payload_most after after_sound full in let k = few_bytes (buffer_with total count) (ok.few_parts, refl) in omega (arith, h, k)
 
-        whole_is : ends rebuilt (some payload)
+        whole_is : ends rebuilt (Some payload)
         whole_is =
             let h = payload_short in
             let w = assemble_good after after_sound full rebuilt (omega (arith, h, room)) in
             let e = eq-eqb count total full in (
               answer_is
-                  ∙ ap (λ (x : Bool). gathered_by (inserted.Held (buffer_with total count) x) slots' lengths' rebuilt) e
-                  ∙ ap (λ (x : Written). assembled_as x (buffer_with total count)) (sym w.0),
-              rebuilt_is ∙ ap (λ (x : Bool). rebuilt_by (inserted.Held (buffer_with total count) x) slots' lengths' rebuilt) e ∙ sym w.1,
+                  ∙ ap (λ (x : Bool). gathered_by (Ok ((buffer_with total count), x)) slots' lengths' rebuilt) e
+                  ∙ ap (λ (x : Result ℕ Refusal). assembled_as x (buffer_with total count)) (sym w.0),
+              rebuilt_is ∙ ap (λ (x : Bool). rebuilt_by (Ok ((buffer_with total count), x)) slots' lengths' rebuilt) e ∙ sym w.1,
               h,
             )
 
-        whole_told : whole_of (slots_in after) ≡ some payload
-        whole_told = whole_held (slots_in after) (sym after_sound.counted ∙ full ∙ sym many) ∙ ap some (sym (payload_joined after after_sound full))
+        whole_told : whole_of (slots_in after) ≡ Some payload
+        whole_told = whole_held (slots_in after) (sym after_sound.counted ∙ full ∙ sym many) ∙ ap Some (sym (payload_joined after after_sound full))
 
       pub fragment_ends : 32768 ≤ length rebuilt → ends rebuilt (whole_of (slots_with before nr total body))
       fragment_ends room = subst (λ (v : List Slot). ends rebuilt (whole_of v)) after_slots (by (eqb count total) refl)
@@ -317,7 +313,7 @@ module _ (s : ClientSession) (ps ls : List ℕ) (sound : Sound (record { buffer 
     short_ends rebuilt =
         let n = new_chosen s total ps ls other in
         let c = codec.new_refused total 512 ps ls short in
-        let w = gather_by s total ps ls rebuilt nr body (made.Refused OverLimit) ls (c.0 ∙ n.0, c.1 ∙ n.1) in
+        let w = gather_by s total ps ls rebuilt nr body (Err OverLimit) ls (c.0 ∙ n.0, c.1 ∙ n.1) in
         (sym w.0, sym w.1, sym w.2)
 
   -- the session behind it: of its fragments codec's soundness holds
@@ -331,8 +327,8 @@ module _ (s : ClientSession) (ps ls : List ℕ) (sound : Sound (record { buffer 
     sound_left = by (under_need total 512 (length ps) (length ls)) refl
       where
         left : (o : Option (List ℕ)) → ends rebuilt o → SoundLeft (gathered_in s ps ls rebuilt nr total body)
-        left none e = subst SoundLeft (sym e.1) (ok.few_parts, e.2)
-        left (some bytes) e = subst SoundLeft (sym e.0) (omega arith, no_fragments (parts_after s ps ls nr total body) (lengths_after s ps ls nr total body))
+        left None e = subst SoundLeft (sym e.1) (ok.few_parts, e.2)
+        left (Some bytes) e = subst SoundLeft (sym e.0) (omega arith, no_fragments (parts_after s ps ls nr total body) (lengths_after s ps ls nr total body))
 
         by : (x : Bool) → under_need total 512 (length ps) (length ls) ≡ x → SoundLeft (gathered_in s ps ls rebuilt nr total body)
         by true e =

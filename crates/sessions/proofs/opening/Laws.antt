@@ -1,16 +1,22 @@
 -- One step of counting the live sessions and of looking for a free id; five ids that are free together.
-use Prim.Native.Nat.{ℕ, suc, ◌+◌, ◌-◌, ◌<◌, ◌≤◌}
+use Prim.Native.Nat.{ℕ, zero, suc, ◌+◌, ◌-◌, ◌<◌, ◌≤◌}
 use mathlib.Core.Path.{◌≡◌, refl, sym, ap, ◌∙◌}
-use mathlib.Core.Bool.{Bool, true, false, cond}
-use mathlib.Core.List.{List}
+use mathlib.Core.Bool.{Bool, true, false, cond, not}
+use mathlib.Core.List.{List, []}
 use native.Mathlib.Omega.{arith}
-use borrow.Author.Tests.{leb-true, eq-eqb, ne_eqb}
+use borrow.Author.Tests.{ltb-false, eq-eqb, ne_eqb}
 use lib.Bits.{bit_or, or_add_and, and_le_l, and_le_r}
-use lib.Dec.{leb, ltb}
-use lib.ListN.{length}
+use lib.Dec.{eqb, ltb}
+use lib.ListN.{length, get_or, take, drop}
+use lib.Seq.{drop-cons, length-take-le}
+use Rattle.std.specs.List.{count_by, position, position_or_len}
+use Rattle.std.specs.Option.{unwrap_or}
+use Rattle.std.specs.Prelude.{None, Some}
+use Rattle.streams.specs.Places.{first_from}
+use Rattle.streams.proofs.places.Laws.{most_from}
+use Rattle.std.proofs.lemmas.List.Sums.{sum_by-cons}
 use Rattle.sessions.specs.Table.{session_at, is_free}
-use Rattle.sessions.specs.Opening.{after, live_from, live_of, free_from, open_fits}
-use Rattle.sessions.specs.Streams.{streams_fit}
+use Rattle.sessions.specs.Opening.{after, live_from, live_of, free_from, unmarked}
 use Rattle.sessions.specs.declared.table.ClientSession.{ClientSession}
 
 -- numbers that have no bit together are 0 each
@@ -30,8 +36,18 @@ module _ (rows : List (List ℕ)) where
   unfolding live_from
   live_step i j m n d e = rw (d, e) refl
 
-  pub live_more : (i : ℕ) → 1 < i → i ≤ 256 → live_from (is_free rows) (i - 1) (256 - (i - 1)) ≡ cond (is_free rows (i - 1)) 0 1 + live_from (is_free rows) i (256 - i)
-  live_more i h l = live_step (i - 1) i (256 - (i - 1)) (256 - i) (omega arith) (omega arith)
+  -- counted over the rows themselves
+  pub live_counted : 256 ≤ length rows → count_by (λ (r : List ℕ). not (eqb (get_or r 0 0) 0)) (take 255 (drop 1 rows)) ≡ live_of rows
+  unfolding live_of live_from
+  live_counted h = go 255 1 h
+    where
+      same : (b : Bool) (m n : ℕ) → m ≡ n → cond (not b) 1 0 + m ≡ cond b 0 1 + n
+      same true m n e = omega arith
+      same false m n e = omega arith
+
+      go : (n i : ℕ) → i + n ≤ length rows → count_by (λ (r : List ℕ). not (eqb (get_or r 0 0) 0)) (take n (drop i rows)) ≡ live_from (is_free rows) i n
+      go zero i h = refl
+      go (suc n) i h = rw (drop-cons rows i [] (omega arith), sum_by-cons (λ (r : List ℕ). cond (not (eqb (get_or r 0 0) 0)) 1 0) (get_or rows i []) (take n (drop (suc i) rows))) (same (is_free rows i) _ _ (go n (suc i) (omega arith)))
 
   free_counts : (i : ℕ) (s : ClientSession) → s ≡ session_at rows i → s.live ≡ 0 → ◌≡◌ {A = ℕ} (cond (is_free rows i) 0 1) 0
   free_counts i s e h = rw (eq-eqb (session_at rows i).live 0 (sym (ap (λ (t : ClientSession). t.live) e) ∙ h)) refl
@@ -52,10 +68,6 @@ module _ (rows : List (List ℕ)) where
       ∙ both (free_counts (i + 3) d s abc.1) (live_step (i + 4) (i + 5) 1 0 (omega arith) refl
       ∙ both (free_counts (i + 4) e t abcd.1) (sym (live_none (i + 5)))))))
 
-  pub live_all : (i : ℕ) → i ≡ 1 → live_from (is_free rows) i (256 - i) ≡ live_of rows
-  unfolding live_of
-  live_all i e = rw e refl
-
   free_next : (id left : ℕ) → 0 < left → free_from (is_free rows) id left ≡ cond (is_free rows id) id (free_from (is_free rows) (after id) (left - 1))
   unfolding free_from
   free_next id left h = go left (left - 1) (omega arith)
@@ -74,11 +86,29 @@ module _ (rows : List (List ℕ)) where
   unfolding free_from
   free_none id left e = rw e refl
 
--- what fits has all its rows
-pub fits_long : (rows streams : List (List ℕ)) (max next : ℕ) → open_fits rows streams max next ≡ true → 256 ≤ length rows
-unfolding open_fits
-fits_long rows streams max next e = go (leb 256 (length rows)) refl e
+-- the first mark of n that is 0 is the first of them one by one
+pub unmarked_listed : (taken : List ℕ) (n : ℕ) → n ≤ length taken → unwrap_or (position (λ (mark : ℕ). eqb mark 0) (take n taken)) n ≡ first_from (unmarked taken) n 0
+unfolding first_from
+unmarked_listed taken n h = by (ltb place (length (take n taken))) refl
   where
-    go : (b : Bool) → leb 256 (length rows) ≡ b → cond b (cond (streams_fit streams) (cond (leb max 255) (ltb 0 next) false) false) false ≡ true → 256 ≤ length rows
-    go true p q = leb-true 256 (length rows) p
-    go false p q = let z : ◌≡◌ {A = ℕ} 0 1 = cc in omega arith
+    place : ℕ
+    place = position_or_len (λ (mark : ℕ). eqb mark 0) (take n taken)
+
+    step : (b : Bool) (m i k : ℕ) → suc i + m ≡ k → i + cond (not b) (1 + m) 0 ≡ cond b i k
+    step true m i k e = omega arith
+    step false m i k e = omega arith
+
+    go : (k i : ℕ) → i + k ≤ length taken → i + position_or_len (λ (mark : ℕ). eqb mark 0) (take k (drop i taken)) ≡ first_from (unmarked taken) k i
+    go zero i l = omega arith
+    go (suc k) i l = rw (drop-cons taken i 0 (omega arith)) (step (unmarked taken i) _ i _ (go k (suc i) (omega arith)))
+
+    found : place ≡ first_from (unmarked taken) n 0
+    found = let e = go n 0 (omega arith) in omega arith
+
+    by : (b : Bool) → ltb place (length (take n taken)) ≡ b → unwrap_or (cond b (Some place) None) n ≡ first_from (unmarked taken) n 0
+    by true e = found
+    by false e =
+        let few = most_from (unmarked taken) n 0 in
+        let all = length-take-le n taken h in
+        let past : length (take n taken) ≤ place = ltb-false place (length (take n taken)) e in
+        omega (arith, found)

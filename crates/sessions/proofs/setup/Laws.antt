@@ -1,24 +1,19 @@
 -- A store that is cleared record by record, and what set-up accepts.
 use Prim.Native.Nat.{ℕ, zero, suc, ◌+◌, ◌<◌, ◌≤◌}
-use mathlib.Core.Path.{◌≡◌, refl, sym, ap, ◌∙◌}
+use mathlib.Core.Path.{◌≡◌, refl, ap, ◌∙◌}
 use mathlib.Core.Bool.{Bool, true, false, cond}
 use mathlib.Core.List.{List, [], ◌∷◌, ◌++◌}
 use native.Mathlib.Omega.{arith}
 use borrow.Author.Tests.{leb-true}
 use lib.Dec.{leb}
-use lib.ListN.{length, set, get_or, drop, replicate, length-append, length-drop, length-replicate, get_or-replicate, get_or-append}
-use Rattle.codec.specs.declared.refusals.Refusal.TheVariants.{OverLimit}
+use Rattle.std.proofs.Common.{append_assoc}
+use lib.ListN.{length, set, get_or, take, drop, replicate, length-append, length-drop, length-replicate, get_or-replicate, get_or-append}
 use Rattle.sessions.specs.Need.{held_need, parts_need, lengths_need, rebuilt_need, fragments_fit, stores_fit}
-use Rattle.sessions.specs.Setup.{cleared, first_id, set_up_of}
-use Rattle.sessions.specs.declared.setup.SetUp.TheVariants.{Ready, Refused}
+use Rattle.sessions.specs.Setup.{cleared}
 
 -- ---- one record more
 
 module _ {A : Type 0} (x : A) where
-  pub cleared_none : (store : List A) → store ≡ cleared 0 x store
-  unfolding cleared
-  cleared_none store = refl
-
   one_more : (n : ℕ) (store : List A) → n < length store → set (replicate n x ++ drop n store) n x ≡ replicate (suc n) x ++ drop (suc n) store
   one_more n [] h = let z : ⊥ = omega arith in absurd z
   one_more zero (y ∷ store) h = refl
@@ -27,6 +22,16 @@ module _ {A : Type 0} (x : A) where
   pub cleared_more : (n : ℕ) (store : List A) → n < length store → set (cleared n x store) n x ≡ cleared (n + 1) x store
   unfolding cleared
   cleared_more n store h = let e : suc n ≡ n + 1 = omega arith in one_more n store h ∙ ap (λ (k : ℕ). replicate k x ++ drop k store) e
+
+  -- a part that is cleared whole
+  pub cleared_part : (n : ℕ) (store : List A) → cleared n x (take n store) ++ drop n store ≡ cleared n x store
+  unfolding cleared
+  cleared_part n store = rw (none n store) (simp append_assoc)
+    where
+      none : (k : ℕ) (l : List A) → drop k (take k l) ≡ []
+      none zero l = refl
+      none (suc k) [] = refl
+      none (suc k) (y ∷ l) = none k l
 
   pub cleared_length : (n : ℕ) (store : List A) → n ≤ length store → length (cleared n x store) ≡ length store
   unfolding cleared
@@ -74,7 +79,3 @@ module _ (sessions streams objects held parts lengths rebuilt max : ℕ) where
         lengths_long = leb-true (lengths_need max) lengths h.0;
         rebuilt_long = leb-true rebuilt_need rebuilt h.1;
       }
-
-  pub set_up_by_lem : (b : Bool) → stores_fit sessions streams objects held parts lengths rebuilt max ≡ b → cond b (Ready first_id) (Refused OverLimit) ≡ set_up_of sessions streams objects held parts lengths rebuilt max
-  unfolding set_up_of
-  set_up_by_lem b e = ap (λ (f : Bool). cond f (Ready first_id) (Refused OverLimit)) (sym e)

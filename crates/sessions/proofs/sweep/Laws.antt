@@ -1,23 +1,17 @@
 -- What goes, counted; one step of a sweep.
 use Prim.Native.Nat.{ℕ, zero, suc, ◌+◌, ◌-◌, ◌<◌, ◌≤◌}
-use mathlib.Core.Path.{◌≡◌, refl, sym, ap, ◌∙◌}
+use mathlib.Core.Path.{◌≡◌, refl, ap, ◌∙◌}
 use mathlib.Core.Bool.{Bool, true, false, cond}
 use mathlib.Core.List.{List, [], ◌∷◌}
 use native.Mathlib.Numerals.{add-one}
 use native.Mathlib.Omega.{arith}
-use native.Mathlib.Decide.{dec_le}
-use borrow.Author.Tests.{lt-leb, le-leb, lt-ltb, le-ltb, eq-eqb, ne_eqb}
-use lib.Dec.{eqb}
 use lib.ListN.{set, length}
 use lib.Seq.{sets, get_or-set_other}
 use Rattle.codec.specs.Bytes.{put_at}
-use Rattle.codec.proofs.bytes.Laws.{put_sets, put_short, put_fits}
-use Rattle.codec.specs.declared.bytes.Written.TheVariants.{Bytes, Refused}
-use Rattle.codec.specs.declared.refusals.Refusal.TheVariants.{OutputTooShort, OverLimit}
+use Rattle.codec.proofs.bytes.Laws.{put_sets}
 use Rattle.sessions.specs.Table.{session_at, is_free, row_of, ended_session, expired_of}
-use Rattle.sessions.specs.declared.table.ClientSession.{ClientSession}
 use Rattle.sessions.specs.Opening.{live_from}
-use Rattle.sessions.specs.Sweep.{goes, expired_from, swept_at, swept_from, expired_ids, swept_rows, evicted_of, evicted_rows, evicted_out}
+use Rattle.sessions.specs.Sweep.{goes, expired_from, swept_at, swept_from, expired_ids, swept_rows}
 
 -- a list of no length is empty, and nothing is stored of it
 empty : (l : List ℕ) → length l ≡ 0 → l ≡ []
@@ -53,22 +47,9 @@ module _ (gone : ℕ → Bool) where
   unfolding expired_from
   count_none i n e = rw e refl
 
-  -- where the first that goes may stand, with five more in front
-  pub first_turn : (i j first c : ℕ) → j ≡ i + 5 → j ≤ first → c ≡ length (expired_from gone i 5) → length (expired_from gone j (first - j)) ≡ 0
-      → (i ≤ cond (eqb c 0) first i) × (cond (eqb c 0) first i ≤ first) × (length (expired_from gone i (cond (eqb c 0) first i - i)) ≡ 0)
-  first_turn i j first c d l e h =
-      elim (dec_le c 0) [
-        | yes z ↦
-            let five = count_more i j 5 0 d refl in
-            let all = count_more i j (first - i) (first - j) d (omega arith) in
-            rw (eq-eqb c 0 (omega arith)) (omega arith, omega arith, omega (arith, five, all, count_none j 0 refl))
-        | no z ↦ rw (ne_eqb c 0 (λ w. omega arith)) (omega arith, omega arith, count_none i (i - i) (omega arith))
-      ]
-
-  pub count_some : (i n : ℕ) → 0 < length (expired_from gone i n) → 0 < n
-  unfolding expired_from
-  count_some i zero h = h
-  count_some i (suc n) h = omega arith
+  -- what goes of five and of those behind them
+  pub five_more : (i j m n a c : ℕ) → j ≡ i + 5 → m ≡ 5 + n → a ≡ length (expired_from gone j n) → c ≡ length (expired_from gone i 5) → a + c ≡ length (expired_from gone i m)
+  five_more i j m n a c d e f g = omega (arith, f, g, count_more i j 5 0 d refl, count_more i j m n d e, count_none j 0 refl)
 
 module _ (time timeout : ℕ) where
   -- what goes at other ids does not change with a row
@@ -176,14 +157,16 @@ module _ (time timeout : ℕ) where
         → sets out 0 (expired_ids rows time timeout) ≡ put_at out 0 (expired_ids rows time timeout)
     listed_all out h = put_sets out 0 (expired_ids rows time timeout) (omega arith)
 
-module _ (rows : List (List ℕ)) (time timeout id : ℕ) (s : ClientSession) (e : s ≡ session_at rows id) where
-  pub goes_free : s.live ≡ 0 → false ≡ goes rows time timeout id
-  unfolding goes
-  goes_free h = rw (eq-eqb (session_at rows id).live 0 (sym (ap (λ (t : ClientSession). t.live) e) ∙ h))
-
-  pub goes_live : (s.live ≡ 0 → ⊥) → expired_of s time timeout ≡ goes rows time timeout id
-  unfolding goes
-  goes_live h = rw (ne_eqb (session_at rows id).live 0 (λ z. h (ap (λ (t : ClientSession). t.live) e ∙ z))) (ap (λ (t : ClientSession). expired_of t time timeout) e)
+  -- a sweep is done once none of the ids from i on goes
+  pub sweep_done : (all : List (List ℕ)) (out : List ℕ) → length (expired_ids all time timeout) ≤ length out
+      → (rows : List (List ℕ)) (ys : List ℕ) (i at : ℕ) → length (expired_from (goes rows time timeout) i (256 - i)) ≡ 0
+      → swept_from rows time timeout i (256 - i) ≡ swept_rows all time timeout
+      → sets ys at (expired_from (goes rows time timeout) i (256 - i)) ≡ sets out 0 (expired_ids all time timeout)
+      → (rows ≡ swept_rows all time timeout) × (ys ≡ put_at out 0 (expired_ids all time timeout))
+  sweep_done all out h rows ys i at none swept listed = (
+    swept_end rows i (256 - i) none ∙ swept,
+    stores_none ys at (expired_from (goes rows time timeout) i (256 - i)) none ∙ listed ∙ listed_all all out h,
+  )
 
 -- of ids of which none is live none goes
 pub free_stay : (rows : List (List ℕ)) (time timeout i n : ℕ) → live_from (is_free rows) i n ≡ 0 → length (expired_from (goes rows time timeout) i n) ≡ 0
@@ -195,25 +178,3 @@ free_stay rows time timeout i (suc n) h = by (is_free rows i) (expired_from (goe
         → length (cond (cond b false (expired_of (session_at rows i) time timeout)) (i ∷ ids) ids) ≡ 0
     by true ids k rest = rest (omega arith)
     by false ids k rest = absurd (omega arith)
-
--- ---- what a sweep comes to
-
-module _ (rows : List (List ℕ)) (time timeout : ℕ) (out : List ℕ) where
-  abbrev ids : List ℕ
-  ids = expired_ids rows time timeout
-
-  pub evict_short : length rows < 256 → (Refused OverLimit ≡ evicted_of rows time timeout out) × (rows ≡ evicted_rows rows time timeout out) × (out ≡ evicted_out rows time timeout out)
-  unfolding evicted_of evicted_rows evicted_out
-  evict_short h = rw (lt-leb 256 (length rows) h) (refl, refl, refl)
-
-  module _ (long : 256 ≤ length rows) where
-    pub evict_full : length out < length (expired_ids rows time timeout)
-        → (Refused OutputTooShort ≡ evicted_of rows time timeout out) × (rows ≡ evicted_rows rows time timeout out) × (out ≡ evicted_out rows time timeout out)
-    unfolding evicted_of evicted_rows evicted_out
-    evict_full h = rw (le-leb 256 (length rows) long, lt-ltb (length out) (length ids) h) ((put_short out 0 ids (omega arith)).0, refl, (put_short out 0 ids (omega arith)).1)
-
-    pub evict_done : length (expired_ids rows time timeout) ≤ length out
-        → (Bytes (length (expired_ids rows time timeout)) ≡ evicted_of rows time timeout out) × (swept_rows rows time timeout ≡ evicted_rows rows time timeout out)
-        × (put_at out 0 (expired_ids rows time timeout) ≡ evicted_out rows time timeout out)
-    unfolding evicted_of evicted_rows evicted_out
-    evict_done h = rw (le-leb 256 (length rows) long, le-ltb (length out) (length ids) h) ((put_fits out 0 ids (omega arith)).0, refl, (put_fits out 0 ids (omega arith)).1)

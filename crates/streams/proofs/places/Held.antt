@@ -1,6 +1,6 @@
 -- What a place holds, and which place is chosen for a number.
+use Rattle.std.specs.Prelude.{None, Some}
 use Rattle.std.proofs.Common.{◌≡◌, ℕ, ◌-◌, ◌<◌, ◌≤◌, Bool, true, false, cond, eqb, ltb, leb, get_or, sym, refl, ◌∙◌, arith, ltb-false, ltb-true, lt-ltb, eq-eqb, ne_eqb, eqb-true, leb-true}
-use mathlib.Core.Option.{none, some}
 use borrow.Author.Tests.{eqb-false}
 use Rattle.streams.specs.declared.state.StreamState.{StreamState}
 use Rattle.streams.specs.Places.{first_place, holds, within, holds_at, length_at, place_of, place_between, is_held, place_for}
@@ -45,7 +45,7 @@ within_zero len e = by (ltb len 0) e
     by false h = omega (arith, leb-true len 0 h)
 
 module _ (s : StreamState) (n : ℕ) where
-  -- a number that is held has a place, and one that isn't is at none
+  -- a number that is held has a place, and one that isn't is at None
   pub held_low : is_held s n ≡ true → place_of s n < 16
   unfolding is_held
   held_low e = ltb-true (place_of s n) 16 e
@@ -71,11 +71,11 @@ module _ (s : StreamState) (n : ℕ) where
 
   -- what is read of the message under n, by its place
   module _ {A : Type 0} (read : ℕ → ℕ → A) where
-    pub read_at : (q : ℕ) → place_of s n ≡ q → q < 16 → held_by read s n ≡ some (read q (get_or s.lengths q 0 - 1))
+    pub read_at : (q : ℕ) → place_of s n ≡ q → q < 16 → held_by read s n ≡ Some (read q (get_or s.lengths q 0 - 1))
     unfolding held_by is_held
     read_at q e h = rw (e, lt-ltb q 16 h)
 
-    pub read_none : place_of s n ≡ 16 → held_by read s n ≡ none
+    pub read_none : place_of s n ≡ 16 → held_by read s n ≡ None
     unfolding held_by is_held
     read_none e = rw e
 
@@ -83,7 +83,7 @@ module _ (s : StreamState) (n : ℕ) where
     unfolding held_by
     read_present = by (is_held s n) _
       where
-        by : (b : Bool) (x : A) → present (cond b (some x) none) ≡ b
+        by : (b : Bool) (x : A) → present (cond b (Some x) None) ≡ b
         by true x = refl
         by false x = refl
 

@@ -1,6 +1,12 @@
 -- Laws of the search over a stream's places: what a loop over them does turn by turn.
-use Rattle.std.proofs.Common.{◌≡◌, ℕ, zero, suc, ◌+◌, ◌-◌, ◌<◌, ◌≤◌, Bool, true, false, cond, sym, refl, ap, ◌∙◌, ⊎_elim, eq-or-lt_of_le, add-one, arith}
-use Rattle.streams.specs.Places.{first_from, first_place}
+use Rattle.std.proofs.Common.{◌≡◌, ℕ, zero, suc, ◌+◌, ◌-◌, ◌<◌, ◌≤◌, Bool, true, false, cond, sym, refl, ap, ◌∙◌, ⊎_elim, eq-or-lt_of_le, add-one, add-zero, arith, not, ltb, ltb-true, ltb-false}
+use Rattle.std.proofs.lemmas.Bool.Decides.{nat_tests}
+use Rattle.std.proofs.lemmas.Option.{none-some}
+use Rattle.std.specs.Prelude.{None, Some, List, [], ◌∷◌, length, get_or, nat_lt, nat_le, is_some, is_none, unwrap_or, position}
+use Rattle.std.specs.Option.{option_or}
+use Rattle.std.specs.List.{position_or_len}
+use Rattle.streams.specs.declared.state.StreamState.{StreamState}
+use Rattle.streams.specs.Places.{first_from, first_place, some_place, place_of, place_between, is_held, place_for}
 
 -- what is left of k places behind i, as a search from i on counts it
 pub left_of : (k i : ℕ) → i < k → k - i ≡ suc (k - (i + 1))
@@ -109,3 +115,59 @@ pub first_none : (t : ℕ → Bool) → ((j : ℕ) → j < 16 → t j ≡ false)
 first_none t f =
     let low : first_place t < 16 → ⊥ = λ l. never (first_found t l) (f (first_place t) l) in
     omega (arith, low, first_most_lem t)
+
+-- ---- the places as items of a list
+
+-- a search by place that tests the items of a list comes to the first item that passes
+first_item : {X : Type 0} (t : ℕ → Bool) (p : X → Bool) (d : X) (xs : List X) (i : ℕ) → ((j : ℕ) → j < length xs → t (i + j) ≡ p (get_or xs j d)) → first_from t (length xs) i ≡ i + position_or_len p xs
+unfolding first_from
+first_item t p d [] i f = omega arith
+first_item t p d (x ∷ xs) i f =
+    let here : t i ≡ p x = (rw (add-zero i) at (f 0 (omega arith))) in
+    let behind = first_item t p d xs (suc i) (λ j h. let e : i + suc j ≡ suc i + j = omega arith in (rw e at (f (suc j) (omega arith)))) in
+    rw (here, behind) (by (p x) (position_or_len p xs))
+  where
+    by : (b : Bool) (m : ℕ) → cond b i (suc i + m) ≡ i + cond (not b) (1 + m) 0
+    by true m = omega arith
+    by false m = omega arith
+
+-- what `position` answers of a list of sixteen
+pub position_placed : {X : Type 0} (t : ℕ → Bool) (p : X → Bool) (d : X) (xs : List X) → length xs ≡ 16 → ((j : ℕ) → j < 16 → t j ≡ p (get_or xs j d)) → position p xs ≡ some_place (first_place t)
+unfolding first_place
+position_placed t p d xs e f =
+    let i = first_item t p d xs 0 (λ j h. let z : 0 + j ≡ j = omega arith in rw z (f j (omega (arith, e)))) in
+    let same : position_or_len p xs ≡ first_from t 16 0 = omega (arith, (rw e at i)) in
+    rw (same, e) refl
+
+module _ (q : ℕ) where
+  pub is_placed : is_some (some_place q) ≡ nat_lt q 16
+  is_placed = grind (arith, nat_tests)
+
+  pub none_placed : is_none (some_place q) ≡ nat_le 16 q
+  none_placed = grind (arith, nat_tests)
+
+  pub placed : (p : ℕ) → some_place q ≡ Some p → (q < 16) × (q ≡ p)
+  placed p e = by (ltb q 16) refl e
+    where
+      by : (b : Bool) → ltb q 16 ≡ b → cond b (Some q) None ≡ Some p → (q < 16) × (q ≡ p)
+      by true l e = (ltb-true q 16 l, cc)
+      by false l e = absurd (none-some p e)
+
+  pub unplaced : some_place q ≡ None → 16 ≤ q
+  unplaced e = by (ltb q 16) refl e
+    where
+      by : (b : Bool) → ltb q 16 ≡ b → cond b (Some q) None ≡ None → 16 ≤ q
+      by true l e = absurd (none-some q (sym e))
+      by false l e = ltb-false q 16 l
+
+pub placed_or : (t : ℕ → Bool) → unwrap_or (some_place (first_place t)) 16 ≡ first_place t
+placed_or t = let most = first_most_lem t in grind (arith, nat_tests)
+
+-- the place of a number that is held, else the first free one
+pub placed_for : (s : StreamState) (n : ℕ) → option_or (some_place (place_of s n)) (some_place (place_between s 0 0)) ≡ some_place (place_for s n)
+unfolding place_for is_held
+placed_for s n = by (ltb (place_of s n) 16) refl
+  where
+    by : (b : Bool) → ltb (place_of s n) 16 ≡ b → option_or (cond b (Some (place_of s n)) None) (some_place (place_between s 0 0)) ≡ some_place (cond b (place_of s n) (place_between s 0 0))
+    by true e = rw e
+    by false e = refl

@@ -1,14 +1,18 @@
 -- `agent::fragments::fragment` meets its contract.
-use mathlib.Core.Path.{refl}
-use Rattle.agent.specs.Lent.{lent}
-use Rattle.agent.proofs.Written.{as_left, fragment_cut}
+use Rattle.std.proofs.Common.{rules, ap, ◌∙◌}
+use Rattle.agent.specs.Run.{Turned, put_replies}
+use Rattle.agent.specs.Stores.{stores_of}
+use Rattle.agent.proofs.Written.{fragment_by}
 use Rattle.agent.proofs.fragments.fragment.Goals as goal
 
 pub returns : goal.returns
 returns c =
     let a = c.args in
-    let t = lent a.sessions.now a.streams.now a.objects.now a.held.now a.parts.now a.lengths.now a.rebuilt.now in
-    let g = c.gather-n.ensures in
-    let e = c.work_off.ensures in
-    rw (e.0, e.1, e.2, e.3, e.4, c.rebuilt_end-end.ensures, g.0, g.1, g.2, g.3, g.4)
-    (as_left a.f.room a.out.now _ a.r.wrote _ _ (fragment_cut a.f t a.d.now a.r a.took _ refl) refl)
+    let w = c.work_off.ensures in
+    let all = fragment_by a.f (stores_of a.stores.now) a.d.now a.r a.took _ _ c.gather-n.ensures.stores c.gather-n.ensures.count in
+    record {
+      ran = w.ran ∙ ap (λ (y : Turned). y.ran) all;
+      stores = w.stores ∙ ap (λ (y : Turned). y.tables) all;
+      out = w.out ∙ ap (λ (y : Turned). put_replies a.f.room a.out.now a.r.wrote y.replies) all;
+      places = search rules;
+    }

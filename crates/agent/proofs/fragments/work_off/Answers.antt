@@ -1,17 +1,20 @@
 -- `agent::fragments::work_off` meets its contract.
+use Rattle.std.proofs.Common.{rules}
 use Prim.Native.Nat.{ℕ}
-use mathlib.Core.Path.{◌≡◌, refl, sym, ap, ◌∙◌}
+use mathlib.Core.Path.{◌≡◌, sym, ap, ◌∙◌}
 use mathlib.Core.Bool.{Bool, true, false}
 use mathlib.Core.List.{List}
 use Rattle.codec.specs.Rebuilt.{rebuilt_of}
-use Rattle.moves.specs.Rows.{Rows, rows}
+use Rattle.moves.specs.Rows.{Rows}
 use Rattle.agent.specs.Judge.{is_read}
-use Rattle.agent.specs.Run.{Acted, entered_ran, left_acted, left_by}
+use Rattle.agent.specs.Lent.{rows_of, with_rows, rebuilt_part}
+use Rattle.agent.specs.Run.{Acted, entered_ran, left_acted, left_by, put_replies}
 use Rattle.agent.specs.Legs.{Led, leg_at}
+use Rattle.agent.specs.Stores.{stores_of}
 use Rattle.agent.specs.declared.leg.Mode.TheVariants.{Rebuilt}
 use Rattle.agent.specs.declared.turn.Frame.{Frame}
 use Rattle.agent.specs.declared.turn.Ran.{Ran}
-use Rattle.agent.proofs.Written.{as_acted, no_replies, left_if, left_if_lem}
+use Rattle.agent.proofs.Written.{no_replies, left_if, left_if_lem}
 use Rattle.agent.proofs.Legs.{leg_work}
 use Rattle.agent.proofs.fragments.work_off.Goals as goal
 
@@ -29,16 +32,30 @@ module _ (f : Frame) (h s : List ℕ) (n : ℕ) (r : Ran) (at : ℕ) (t : Rows) 
 pub returns-then-is_read : goal.returns-then-is_read
 returns-then-is_read c =
     let a = c.args in
-    let t = rows a.sessions.now a.streams.now a.objects.now in
+    let t = stores_of a.stores.now in
+    let s = rebuilt_part t.rebuilt a.n in
     let e = c.lead-y.ensures in
-    rw (c.left.ensures, e.0, e.1, e.2, e.3, e.4, c.entered-first.ensures)
-    (as_acted a.f.room a.out.now _ a.r.wrote _ _
-    (led_is a.f a.held.now a.s.now a.n a.r a.at t (ap is_read (sym c.check_rebuilt.ensures) ∙ (sym c.is_read.ensures ∙ c.if-is_read.true))) refl)
+    let read : is_read (rebuilt_of s) ≡ true = cc in
+    let all = led_is a.f t.held s a.n a.r a.at (rows_of t) read in
+    rw (c.left.ensures, e.0, e.1, e.2, e.3, e.4, c.entered-first.ensures, c.rebuilt_part-s.ensures)
+    (record {
+      ran = ap (λ (y : Acted). y.ran) all;
+      stores = ap (λ (y : Acted). with_rows t y.rows) all;
+      out = ap (λ (y : Acted). put_replies a.f.room a.out.now a.r.wrote y.replies) all;
+      places = search rules;
+    })
 
 pub returns-else-is_read : goal.returns-else-is_read
 returns-else-is_read c =
     let a = c.args in
-    let t = rows a.sessions.now a.streams.now a.objects.now in
+    let t = stores_of a.stores.now in
+    let s = rebuilt_part t.rebuilt a.n in
+    let read : is_read (rebuilt_of s) ≡ false = cc in
+    let all = left_is a.f t.held s a.n a.r a.at (rows_of t) false read in
     rw c.passed.ensures
-    (as_acted a.f.room a.out.now _ a.r.wrote _ _
-    (left_is a.f a.held.now a.s.now a.n a.r a.at t false (ap is_read (sym c.check_rebuilt.ensures) ∙ (sym c.is_read.ensures ∙ c.if-is_read.false))) (no_replies a.f.room a.out.now a.r.wrote))
+    (record {
+      ran = ap (λ (y : Acted). y.ran) all;
+      stores = ap (λ (y : Acted). with_rows t y.rows) all;
+      out = no_replies a.f.room a.out.now a.r.wrote ∙ ap (λ (y : Acted). put_replies a.f.room a.out.now a.r.wrote y.replies) all;
+      places = search rules;
+    })

@@ -4,7 +4,6 @@ use mathlib.Core.List.{List}
 use Prim.Native.Nat.{ℕ}
 use lib.ListN.{length}
 use Rattle.codec.specs.Reading.{read_at}
-use Rattle.codec.specs.declared.layouts.Parsed.{Parsed}
 use Rattle.sessions.specs.Opening.{created_of}
 use Rattle.moves.specs.Rows.{Rows, rows}
 use Rattle.agent.specs.Run.{taken_of}
@@ -18,9 +17,14 @@ use Rattle.agent.specs.declared.turn.Taken.{Taken}
 use Rattle.agent.proofs.Written.{greeting_written, no_replies}
 use Rattle.agent.proofs.Legs.{as_led}
 use Rattle.agent.proofs.leg.turn.Goals as goal
+use Rattle.std.specs.Prelude.{Result}
+use Rattle.codec.specs.declared.layouts.Cursor.{Cursor}
+use Rattle.codec.specs.declared.refusals.Refusal.{Refusal}
+use Rattle.codec.specs.declared.layouts.Span.{Span}
+use Rattle.codec.specs.declared.submessages.Submessage.{Submessage}
 
 -- what was read at the run's place, taken apart and matched
-led_is : (k : Step) (m : Mode) (f : Frame) (t : Rows) (h s : List ℕ) (r : Ran) (p : Parsed) (x : Taken)
+led_is : (k : Step) (m : Mode) (f : Frame) (t : Rows) (h s : List ℕ) (r : Ran) (p : Result (Submessage × Span × Cursor) Refusal) (x : Taken)
     → p ≡ read_at s r.at → x ≡ taken_of p (length s) → k ≡ step_of m x.asked.opening → led_by k f t h s r x ≡ led m f t h s r
 unfolding led
 led_is k m f t h s r p x read apart matched = rw (matched, apart, read) refl

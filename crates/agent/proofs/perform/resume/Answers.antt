@@ -1,20 +1,20 @@
 -- `agent::perform::resume` meets its contract.
-use mathlib.Core.Path.{refl}
-use Rattle.moves.specs.Rows.{rows}
-use Rattle.agent.proofs.Resumed.{left_at_once, left_led}
+use Rattle.std.proofs.Common.{rules}
+use Rattle.agent.specs.Stores.{stores_of}
+use Rattle.agent.proofs.Resumed.{at_once, led_behind}
 use Rattle.agent.proofs.perform.resume.Goals as goal
 
 pub returns-then-start-end : goal.returns-then-start-end
 returns-then-start-end c =
     let a = c.args in
     let b = c.begin-wrote.ensures in
-    rw (c.behind.ensures, b.0, b.1, b.2, b.3, b.4, b.5)
-    (left_at_once a.start (rows a.sessions.now a.streams.now a.objects.now) a.held.now a.rebuilt.now a.sample.now a.out.now c.if-start-end.true)
+    let all = at_once a.start (stores_of a.stores.now) a.sample.now a.out.now _ _ _ (record { wrote = b.wrote; stores = b.stores; written = b.out }) c.if-start-end.true in
+    record { ran = rw c.behind.ensures all.0; stores = all.1; out = all.2; places = search rules }
 
 pub returns : goal.returns
 returns c =
     let a = c.args in
     let b = c.begin-wrote.ensures in
     let x = c.lead-y.ensures in
-    rw (c.left.ensures, x.0, x.1, x.2, x.3, x.4, c.rebuilt_end-n.ensures, c.first_ran-first.ensures, b.0, b.1, b.2, b.3, b.4, b.5)
-    (left_led a.start (rows a.sessions.now a.streams.now a.objects.now) a.held.now a.rebuilt.now a.sample.now a.out.now _ refl)
+    let all = led_behind a.start (stores_of a.stores.now) a.sample.now a.out.now _ _ _ (record { wrote = b.wrote; stores = b.stores; written = b.out }) _ c.rebuilt_part-s.ensures in
+    rw (c.left.ensures, x.0, x.1, x.2, x.3, x.4, c.first_ran-first.ensures) (record { ran = all.0; stores = all.1; out = all.2; places = search rules })

@@ -8,11 +8,11 @@ use Rattle.agent.specs.Step.{Reply}
 use Rattle.agent.proofs.Repeated.{told, listed_first, listed_within}
 use Rattle.agent.proofs.repeats.repeat.Goals as goal
 
-pub repeat_all-requires : goal.repeat_all-requires
-repeat_all-requires c =
+pub shared_ref_as_front-repeat_all : goal.shared_ref_as_front-repeat_all
+shared_ref_as_front-repeat_all c =
     let a = c.args in
     let listed = c.list_repeats-a in
-    (c.requires, listed_within c.read_stream-r.result.state a.p.first_unacked_seq a.p.nack_bitmap listed.result listed.ensures)
+    listed_within c.read_stream-r.result.state a.p.first_unacked_seq a.p.nack_bitmap listed.result listed.ensures
 
 pub returns : goal.returns
 returns c =

@@ -1,5 +1,5 @@
 -- `codec::reassembly::join` meets its contract. The invariant: what is still to be written, written from here on, is the whole.
-use Prim.Native.Nat.{◌≤◌, ◌+◌, ◌-◌, ◌*◌}
+use Prim.Native.Nat.{◌≤◌, ◌+◌, ◌*◌}
 use mathlib.Core.Path.{◌≡◌}
 use lib.ListN.{length, take, drop}
 use Rattle.codec.specs.Bytes.{put_at}
@@ -11,6 +11,3 @@ abbrev pub invariant-loop-i : goal.invariant-loop-i
 invariant-loop-i l =
     (l.i ≤ l.total) × ((length l.out ≡ length l.initial.out) × ((l.at + bytes_held (drop l.i (take l.total l.lengths)) ≤ length l.initial.out)
     × (put_at l.out l.at (joined (bodies_held l.width (drop (l.i * l.width) l.slots) (drop l.i (take l.total l.lengths)))) ≡ put_at l.initial.out 0 (joined (bodies_held l.width l.slots (take l.total l.lengths))))))
-
-abbrev pub decreases-loop-i : goal.decreases-loop-i
-decreases-loop-i l = l.total - l.i

@@ -4,11 +4,11 @@ use mathlib.Core.Path.{◌∙◌, ap, sym}
 use native.Mathlib.Omega.{arith}
 use lib.ListN.{length}
 use Rattle.codec.specs.Strings.{string_bytes}
-use Rattle.codec.specs.declared.bytes.Written.TheVariants.{Bytes}
 use Rattle.codec.proofs.bytes.Laws.{fits_yes, fits_no, write_over, write_short, write_fits}
 use Rattle.codec.proofs.strings.Laws.{length_string, string_put}
 use Rattle.codec.proofs.strings.encode_string.Goals.{Then-fits}
 use Rattle.codec.proofs.strings.encode_string.Goals as goal
+use Rattle.std.specs.Prelude.{Ok}
 
 roomy : (c : Then-fits) → c.args.at + (2 + length c.args.text.now) ≤ length c.args.out.now
 roomy c = fits_yes _ _ _ c.fits.ensures c.if-fits.true
@@ -30,7 +30,7 @@ returns-then-fits c =
     let a = c.args in
     let text = a.text.now in
     let f = write_fits (length text) a.out.now a.at (string_bytes text) c.if-len-gt-MAX_PAYLOAD.false (omega (arith, length_string text, roomy (goal.at.returns-then-fits c).Then-fits)) in (
-      ap (λ k. Bytes k) (sym (length_string text)) ∙ f.0,
+      ap (λ k. Ok k) (sym (length_string text)) ∙ f.0,
       c.copy_in.ensures ∙ rw c.put_word.ensures (string_put a.out.now a.at text (omega (arith, roomy (goal.at.returns-then-fits c).Then-fits))) ∙ f.1,
     )
 

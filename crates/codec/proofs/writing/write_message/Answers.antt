@@ -5,11 +5,11 @@ use native.Mathlib.Omega.{arith}
 use lib.ListN.{length}
 use Rattle.codec.specs.Header.{header_bytes}
 use Rattle.codec.specs.Writing.{payload_bytes, message_bytes}
-use Rattle.codec.specs.declared.bytes.Written.TheVariants.{Bytes}
 use Rattle.codec.proofs.bytes.Laws.{fits_yes, fits_no, write_over, write_short, write_fits}
 use Rattle.codec.proofs.writing.Laws.{length_payload, length_sub, length_message, message_put}
 use Rattle.codec.proofs.writing.write_message.Goals.{After-payload_len-len, Else-fits, Then-fits}
 use Rattle.codec.proofs.writing.write_message.Goals as goal
+use Rattle.std.specs.Prelude.{Ok}
 
 -- the length that was computed is the payload's
 sized : (c : After-payload_len-len) → c.payload_len-len.result ≡ length (payload_bytes c.args.m c.args.body.now)
@@ -43,7 +43,7 @@ returns-then-fits c =
     let room = roomy (goal.at.returns-then-fits c).Then-fits in
     let f = write_fits (length (payload_bytes a.m a.body.now)) a.out.now a.at (message_bytes a.header a.m a.body.now) (omega (arith, n, c.if-len-gt-MAX_PAYLOAD.false)) (omega (arith, n, inner, whole, room)) in
     let e : 4 + 4 + c.payload_len-len.result ≡ length (message_bytes a.header a.m a.body.now) = omega (arith, n, inner, whole) in (
-      ap (λ k. Bytes k) e ∙ f.0,
+      ap (λ k. Ok k) e ∙ f.0,
       c.put_submessage.ensures ∙ rw c.put_head.ensures (message_put a.m a.body.now a.header a.out.now a.at (omega (arith, n, inner, room))) ∙ f.1,
     )
 

@@ -4,11 +4,11 @@ use mathlib.Core.Path.{◌≡◌, ◌∙◌, sym, ap}
 use native.Mathlib.Omega.{arith}
 use lib.ListN.{length}
 use Rattle.codec.specs.Writing.{payload_bytes, sub_bytes}
-use Rattle.codec.specs.declared.bytes.Written.TheVariants.{Bytes}
 use Rattle.codec.proofs.bytes.Laws.{fits_yes, fits_no, write_over, write_short, write_fits}
 use Rattle.codec.proofs.writing.Laws.{length_payload, length_sub}
 use Rattle.codec.proofs.writing.write_submessage.Goals.{After-payload_len-len, Else-fits, Then-fits}
 use Rattle.codec.proofs.writing.write_submessage.Goals as goal
+use Rattle.std.specs.Prelude.{Ok}
 
 -- the length that was computed is the payload's
 sized : (c : After-payload_len-len) → c.payload_len-len.result ≡ length (payload_bytes c.args.m c.args.body.now)
@@ -34,7 +34,7 @@ returns-then-fits c =
     let room = roomy (goal.at.returns-then-fits c).Then-fits in
     let f = write_fits (length (payload_bytes a.m a.body.now)) a.out.now a.at (sub_bytes a.m a.body.now) (omega (arith, n, c.if-len-gt-MAX_PAYLOAD.false)) (omega (arith, n, whole, room)) in
     let e : 4 + c.payload_len-len.result ≡ length (sub_bytes a.m a.body.now) = omega (arith, n, whole) in
-    (ap (λ k. Bytes k) e ∙ f.0, c.put_submessage.ensures ∙ f.1)
+    (ap (λ k. Ok k) e ∙ f.0, c.put_submessage.ensures ∙ f.1)
 
 pub returns : goal.returns
 returns c =

@@ -4,12 +4,12 @@ use native.Mathlib.Omega.{arith}
 use Rattle.listing.proofs.text.Laws.{put_length, text_short, text_fits}
 use Rattle.listing.proofs.message.lines.Goals as goal
 
-pub returns-then-out-end : goal.returns-then-out-end
-returns-then-out-end c =
+pub returns-then-out-end-clause-says : goal.returns-then-out-end-clause-says
+returns-then-out-end-clause-says c =
     let measured = c.put_lines-end.ensures in
     text_short _ _ _ _ _ measured refl (omega (arith, put_length measured))
 
-pub returns : goal.returns
-returns c =
+pub returns-clause-says : goal.returns-clause-says
+returns-clause-says c =
     let measured = c.put_lines-end.ensures in
     text_fits _ _ _ _ _ measured refl (omega (arith, put_length measured)) _ _ c.put_lines.ensures

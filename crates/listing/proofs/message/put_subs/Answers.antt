@@ -1,47 +1,35 @@
--- `listing::message::put_subs` meets its contract. The invariant: what is put and what is left make the whole (`Going`).
-use mathlib.Core.Path.{◌≡◌, sym, ◌∙◌}
-use native.Mathlib.Omega.{arith}
+-- `listing::message::put_subs` meets its contract. The invariant: what is added and what is left make the whole (`Going`).
+use Rattle.std.proofs.Common.{◌≡◌, arith, sym, ◌∙◌}
+use Rattle.std.specs.Prelude.{Ok}
 use Rattle.codec.specs.Reading.{read_at}
-use Rattle.codec.specs.declared.layouts.Parsed.TheVariants.{Sub}
 use Rattle.codec.proofs.reading.Laws.{Placed, read_placed}
-use Rattle.listing.proofs.text.Laws.{put_length}
-use Rattle.listing.proofs.message.Laws.{going_none, going_sub, going_refused, going_end}
-use Rattle.listing.proofs.message.put_subs.Goals.{In-Sub}
+use Rattle.listing.proofs.message.Laws.{going_none, going_sub, going_end}
+use Rattle.listing.proofs.message.put_subs.Goals.{In-Ok}
 use Rattle.listing.proofs.message.put_subs.Goals as goal
 
-pub loop-here-init : goal.loop-here-init
-loop-here-init c = going_none _ _ _ _ c.requires
-
-pub read-requires : goal.read-requires
-read-requires c = tt
+pub loop-m-init : goal.loop-m-init
+loop-m-init c = going_none _ _ c.requires
 
 -- the submessage at `here`
-was : (c : In-Sub)
-    → read_at c.args.s.now c.loop-here.here ≡ Sub c.in-Sub.m c.in-Sub.field-1 c.in-Sub.next
-was c = sym c.read.ensures ∙ c.in-Sub.is
+was : (c : In-Ok) → read_at c.args.s.now c.loop-m.here ≡ Ok (c.in-Ok.m, c.in-Ok.field-0-1, c.in-Ok.next)
+was c = sym c.read.ensures ∙ c.in-Ok.is
 
-there : (c : In-Sub) → Placed c.args.s.now c.loop-here.here c.in-Sub.field-1 c.in-Sub.next
+there : (c : In-Ok) → Placed c.args.s.now c.loop-m.here c.in-Ok.field-0-1 c.in-Ok.next
 there c = read_placed _ _ _ _ _ (was c)
 
-pub overflow_sub-numbers : goal.overflow_sub-numbers
-overflow_sub-numbers c = omega (arith, there (goal.at.overflow_sub-numbers c).In-Sub)
+pub overflow_add-payload : goal.overflow_add-payload
+overflow_add-payload c = omega (arith, there (goal.at.overflow_add-payload c).In-Ok)
 
-pub loop-here-smaller : goal.loop-here-smaller
-loop-here-smaller c = omega (arith, there (goal.at.loop-here-smaller c).In-Sub)
+pub overflow_sub-next : goal.overflow_sub-next
+overflow_sub-next c = omega (arith, there (goal.at.overflow_sub-next c).In-Ok)
 
-pub loop-here-preserved : goal.loop-here-preserved
-loop-here-preserved c =
-    let line = rw c.id.ensures at c.put_line-put.ensures in
-    going_sub _ _ _ _ _ _ _ c.loop-here.invariant _ _ _ _ _ c.loop-here-test.true (was (goal.at.loop-here-preserved c).In-Sub) line
+pub loop-m-smaller : goal.loop-m-smaller
+loop-m-smaller c = omega (arith, there (goal.at.loop-m-smaller c).In-Ok)
 
-pub shape_of-out-in-Refused : goal.shape_of-out-in-Refused
-shape_of-out-in-Refused c = put_length c.loop-here.invariant.put
-
-pub returns-in-Refused : goal.returns-in-Refused
-returns-in-Refused c = absurd (going_refused _ _ _ _ _ _ _ c.loop-here.invariant _ c.loop-here-test.true (sym c.read.ensures ∙ c.in-Refused.is))
-
-pub shape_of-out : goal.shape_of-out
-shape_of-out c = put_length c.loop-here.invariant.put
+pub loop-m-preserved : goal.loop-m-preserved
+loop-m-preserved c =
+    let line = rw (c.from.ensures, c.id.ensures) at c.line.ensures in
+    going_sub _ _ _ _ c.loop-m.invariant _ _ _ _ (was (goal.at.loop-m-preserved c).In-Ok) line
 
 pub returns : goal.returns
-returns c = going_end _ _ _ _ _ _ _ c.loop-here.invariant c.loop-here-test.false
+returns c = going_end _ _ _ _ c.loop-m.invariant _ (sym c.read.ensures ∙ c.in_default.is)

@@ -1,29 +1,15 @@
 -- `sessions::opening::first_unmarked` meets its contract.
-use native.Mathlib.Omega.{arith}
-use borrow.Author.Tests.{eq-eqb, ne_eqb}
-use Rattle.streams.proofs.places.Laws.{open_start, open_hit, open_miss, open_end}
-use Rattle.sessions.specs.Opening.{unmarked}
+use Rattle.std.proofs.Common.{ℕ, Option, ap, ◌≡◌, ◌∙◌, rules}
+use Rattle.std.specs.Prelude.{position, eqb, take}
+use Rattle.std.specs.Option.{unwrap_or}
+use Rattle.std.proofs.lemmas.Iterator.{YieldsList-from_slice}
+use Rattle.std.proofs.lemmas.Iterator.Search.{position_from_yields_List}
+use borrow.Author.Tests.{tests}
+use Rattle.sessions.proofs.opening.Laws.{unmarked_listed}
 use Rattle.sessions.proofs.opening.first_unmarked.Goals as goal
 
-pub loop-k-init : goal.loop-k-init
-loop-k-init c = open_start (unmarked c.args.taken.now) 255
-
-pub bounds-taken-k : goal.bounds-taken-k
-bounds-taken-k c = omega arith
-
-pub returns-then-taken-k-eq0 : goal.returns-then-taken-k-eq0
-returns-then-taken-k-eq0 c = let l = c.loop-k in
-    open_hit (unmarked c.args.taken.now) 255 l.k l.invariant (omega arith) (eq-eqb _ 0 c.if-taken-k-eq0.true)
-
-pub overflow_add-k : goal.overflow_add-k
-overflow_add-k c = omega arith
-
-pub loop-k-smaller : goal.loop-k-smaller
-loop-k-smaller c = omega arith
-
-pub loop-k-preserved : goal.loop-k-preserved
-loop-k-preserved c = let l = c.loop-k in
-    open_miss (unmarked c.args.taken.now) 255 l.k l.invariant (omega arith) (ne_eqb _ 0 c.if-taken-k-eq0.false)
-
 pub returns : goal.returns
-returns c = open_end (unmarked c.args.taken.now) 255 c.loop-k.k c.loop-k.invariant (omega arith)
+returns c =
+    let e : c.position.result ≡ position (λ (mark : ℕ). eqb mark 0) (take 255 c.args.taken.now) =
+    position_from_yields_List (λ (mark : ℕ). eqb mark 0) _ _ c.position.result c.position.ensures.ran (YieldsList-from_slice (take 255 c.args.taken.now) cc) (λ x b q k. search (rules, tests)) in
+    c.unwrap_or.ensures ∙ ap (λ (k : Option ℕ). unwrap_or k 255) e ∙ unmarked_listed c.args.taken.now 255 c.requires

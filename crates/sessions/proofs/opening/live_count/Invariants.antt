@@ -1,12 +1,7 @@
--- `sessions::opening::live_count` meets its contract. The invariant: `n` of the ids from `i` on are live.
-use Prim.Native.Nat.{◌+◌, ◌-◌, ◌≤◌}
-use mathlib.Core.Path.{◌≡◌}
-use Rattle.sessions.specs.Table.{is_free}
-use Rattle.sessions.specs.Opening.{live_from}
+-- `n` of the rows before the index are live.
+use Rattle.std.proofs.Common.{List, ℕ, not, ◌≡◌, ◌≤◌}
+use Rattle.std.specs.Prelude.{count_by, eqb, get_or, take}
 use Rattle.sessions.proofs.opening.live_count.Given as goal
 
-abbrev pub invariant-loop-i : goal.invariant-loop-i
-invariant-loop-i l = (1 ≤ l.i) × (l.i ≤ 256) × (l.n + l.i ≤ 256) × (l.n ≡ live_from (is_free l.sessions) l.i (256 - l.i))
-
-abbrev pub decreases-loop-i : goal.decreases-loop-i
-decreases-loop-i l = l.i
+abbrev pub invariant-loop-row : goal.invariant-loop-row
+invariant-loop-row l = record { few : l.n ≤ l.row-index; counted : l.n ≡ count_by (λ (r : List ℕ). not (eqb (get_or r 0 0) 0)) (take l.row-index l.row-items) }

@@ -5,6 +5,6 @@ use Rattle.streams.specs.Acknowledged.{list_from}
 use Rattle.sessions.specs.Streams.{stream_of}
 use Rattle.sessions.proofs.stream_rows.stream_at.Goals as goal
 
-pub returns-else-at-streams : goal.returns-else-at-streams
+pub returns-in-None : goal.returns-in-None
 unfolding stream_of list_from
-returns-else-at-streams c = rw (c.new.ensures, get_or-eq_default c.args.streams.now [] c.if-at-streams.false)
+returns-in-None c = rw (c.new.ensures, get_or-eq_default c.args.streams.now [] c.in-None.ensures.lookup.3)

@@ -1,10 +1,6 @@
 -- `streams::received::missing` meets its contract: the bits below `bit` are in the bitmap, and the others are still to come.
-use Rattle.std.proofs.Common.{◌-◌}
 use Rattle.streams.proofs.received.Laws.{Reached}
 use Rattle.streams.proofs.received.missing.Given as goal
 
 abbrev pub invariant-loop-bit : goal.invariant-loop-bit
 invariant-loop-bit l = Reached l.expected l.first l.last l.bitmap l.bit
-
-abbrev pub decreases-loop-bit : goal.decreases-loop-bit
-decreases-loop-bit l = 16 - l.bit

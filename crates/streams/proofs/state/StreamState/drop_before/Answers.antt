@@ -1,22 +1,13 @@
--- `StreamState::drop_before` meets its contract. The invariant: the lengths of the places passed are those that are kept.
-use Rattle.std.proofs.Common.{refl, arith}
-use Rattle.streams.specs.Acknowledged.{kept_at, drop_before}
-use Rattle.streams.proofs.acknowledged.Laws.{written_start, written_step, written_end}
+-- `StreamState::drop_before` meets its contract: each place's length is what is kept of it.
+use Rattle.std.proofs.Common.{rules, ◌≡◌, refl}
+use Rattle.streams.specs.Acknowledged.{drop_before, kept_at, sixteen}
+use Rattle.streams.proofs.acknowledged.Laws.{sixteen_made}
 use Rattle.streams.proofs.state.StreamState.drop_before.Goals as goal
 
-pub loop-i-init : goal.loop-i-init
-loop-i-init c = written_start (kept_at c.args.self c.args.first_unacked_seq) _ refl
-
-pub loop-i-preserved : goal.loop-i-preserved
-unfolding kept_at
-loop-i-preserved c =
-    let a = c.args in
-    let l = c.loop-i in
-    rw c.kept_length.ensures (written_step (kept_at a.self a.first_unacked_seq) l.lengths l.i l.invariant (omega arith))
-
 pub returns : goal.returns
-unfolding drop_before
+unfolding drop_before kept_at
 returns c =
-    let a = c.args in
-    let l = c.loop-i in
-    rw (written_end (kept_at a.self a.first_unacked_seq) l.lengths l.i l.invariant (omega arith))
+    let made : c.from_fn-lengths.result ≡ sixteen (kept_at c.args.self c.args.first_unacked_seq) =
+    sixteen_made _ _ (kept_at c.args.self c.args.first_unacked_seq) (λ i y q k. search rules) c.from_fn-lengths.result c.from_fn-lengths.ensures.items
+    in
+    rw made refl

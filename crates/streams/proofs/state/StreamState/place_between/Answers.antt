@@ -1,26 +1,18 @@
--- `streams::state::StreamState::place_between` meets its contract: the search that has come to `i` has still the answer of the whole.
-use Rattle.std.proofs.Common.{sym, ◌∙◌, arith}
-use Rattle.streams.specs.Places.{first_place, place_between, length_at}
-use Rattle.streams.proofs.places.Laws.{open_start, open_hit, open_miss, open_end}
+-- `streams::state::StreamState::place_between` meets its contract.
+use Rattle.std.proofs.Common.{◌≡◌, ℕ, Bool, refl, ◌∙◌, arith, rules}
+use borrow.Author.Tests.{tests}
+use Rattle.std.specs.Prelude.{position}
+use Rattle.std.proofs.lemmas.Iterator.{YieldsList-from_slice}
+use Rattle.std.proofs.lemmas.Iterator.Search.{position_from_yields_List}
+use Rattle.streams.specs.Places.{within, length_at, place_between}
+use Rattle.streams.proofs.places.Laws.{position_placed}
 use Rattle.streams.proofs.state.StreamState.place_between.Goals as goal
 
-pub loop-i-init : goal.loop-i-init
-loop-i-init c = open_start (length_at c.args.self c.args.least c.args.most) 16
-
-pub returns-then-within : goal.returns-then-within
-unfolding place_between first_place length_at
-returns-then-within c =
-    let a = c.args in
-    open_hit (length_at a.self a.least a.most) 16 c.loop-i.i c.loop-i.invariant (omega arith) (sym c.within.ensures ∙ c.if-within.true)
-
-pub loop-i-preserved : goal.loop-i-preserved
-unfolding length_at
-loop-i-preserved c =
-    let a = c.args in
-    open_miss (length_at a.self a.least a.most) 16 c.loop-i.i c.loop-i.invariant (omega arith) (sym c.within.ensures ∙ c.if-within.false)
-
 pub returns : goal.returns
-unfolding place_between first_place
+unfolding place_between length_at
 returns c =
     let a = c.args in
-    open_end (length_at a.self a.least a.most) 16 c.loop-i.i c.loop-i.invariant (omega arith)
+    let s = a.self in
+    let test : ℕ → Bool = λ len. within len a.least a.most in
+    let found : c.position.result ≡ position test s.lengths = position_from_yields_List test _ _ c.position.result c.position.ensures.ran (YieldsList-from_slice s.lengths cc) (λ x b q k. search (rules, tests)) in
+    found ∙ position_placed (length_at s a.least a.most) test 0 s.lengths (omega arith) (λ j h. refl)

@@ -1,12 +1,13 @@
 -- `streams::state::StreamState::place_for` meets its contract.
-use Rattle.std.proofs.Common.{le-ltb, lt-ltb}
-use Rattle.streams.specs.Places.{place_for, is_held}
+use Rattle.std.proofs.Common.{rules, ◌≡◌, ◌∙◌}
+use Rattle.std.specs.Option.{option_or}
+use Rattle.streams.specs.Places.{some_place, place_of, place_between}
+use Rattle.streams.proofs.places.Laws.{placed_for}
 use Rattle.streams.proofs.state.StreamState.place_for.Goals as goal
 
-pub returns-then-held-lt-PLACES : goal.returns-then-held-lt-PLACES
-unfolding place_for is_held
-returns-then-held-lt-PLACES c = rw (lt-ltb _ 16 (rw c.place_of-held.ensures at c.if-held-lt-PLACES.true)) c.place_of-held.ensures
-
 pub returns : goal.returns
-unfolding place_for is_held
-returns c = rw (le-ltb _ 16 (rw c.place_of-held.ensures at c.if-held-lt-PLACES.false)) c.place_between.ensures
+returns c =
+    let s = c.args.self in
+    let n = c.args.seq in
+    let chosen : c.or_else.result ≡ option_or (some_place (place_of s n)) (some_place (place_between s 0 0)) = search rules in
+    chosen ∙ placed_for s n

@@ -1,5 +1,0 @@
--- `codec::layouts::acknack_at` meets its contract.
-use Rattle.codec.proofs.layouts.acknack_at.Goals as goal
-
-pub returns : goal.returns
-returns c = rw (c.word_at.ensures, c.word_at-2.ensures)

@@ -1,2 +1,0 @@
--- Laws of a store's record.
-pub mod Laws

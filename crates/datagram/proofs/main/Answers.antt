@@ -1,9 +1,0 @@
--- `datagram::main` is safe and ends: no more of the output is written than the lines fill.
-use Rattle.listing.proofs.Counts.{lines_within}
-use Rattle.datagram.proofs.main.Goals as goal
-
-pub slice_bounds-out-end : goal.slice_bounds-out-end
-slice_bounds-out-end c = (lines_within _ _ _ _ _ c.lines.ensures c.in-Bytes.is).0
-
-pub slice_bounds-write_all-end : goal.slice_bounds-write_all-end
-slice_bounds-write_all-end c = (lines_within _ _ _ _ _ c.lines.ensures c.in-Bytes.is).1

@@ -1,6 +1,0 @@
--- `layers::words::number` is safe and ends. The measure is what is left of the word.
-use Rattle.std.proofs.Common.{◌-◌, length}
-use Rattle.layers.proofs.words.number.Given as goal
-
-abbrev pub decreases-loop-i : goal.decreases-loop-i
-decreases-loop-i l = length l.digits - l.i

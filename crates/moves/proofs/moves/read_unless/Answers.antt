@@ -1,8 +1,0 @@
--- `moves::moves::read_unless` meets its contract.
-use Rattle.moves.proofs.moves.read_unless.Goals as goal
-
-pub returns-then-full : goal.returns-then-full
-returns-then-full c = rw c.if-full.true
-
-pub returns-else-full : goal.returns-else-full
-returns-else-full c = rw (c.if-full.false, c.read_call.ensures)

@@ -1,8 +1,0 @@
--- `moves::moves::write_move` meets its contract.
-use Rattle.moves.proofs.moves.write_move.Goals as goal
-
-pub returns-in-Bridged : goal.returns-in-Bridged
-returns-in-Bridged c = rw (← c.found_handle-h.ensures, c.in-Bridged.is) c.write_when.ensures
-
-pub returns-in-Implicit : goal.returns-in-Implicit
-returns-in-Implicit c = rw (← c.found_handle-h.ensures, c.in-Implicit.is)

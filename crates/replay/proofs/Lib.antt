@@ -1,2 +1,0 @@
--- What the proofs of this program have in common.
-mod Literals

@@ -1,2 +1,0 @@
--- Laws of the row of objects.
-pub mod Laws

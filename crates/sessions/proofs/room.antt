@@ -1,2 +1,0 @@
--- Laws of room for an object.
-pub mod Laws

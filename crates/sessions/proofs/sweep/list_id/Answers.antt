@@ -1,7 +1,0 @@
--- `sessions::sweep::list_id` meets its contract: a store past the end changes nothing.
-use mathlib.Core.Path.{sym}
-use lib.Seq.{set_out}
-use Rattle.sessions.proofs.sweep.list_id.Goals as goal
-
-pub returns-else-at-out : goal.returns-else-at-out
-returns-else-at-out c = sym (set_out c.args.out.now c.args.at c.args.id c.if-at-out.false)
