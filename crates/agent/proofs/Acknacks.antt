@@ -7,7 +7,7 @@ use mathlib.Core.List.{List, ◌∷◌}
 use native.Mathlib.Decide.{dec_le}
 use native.Mathlib.Nat.{lt_of_not-le}
 use native.Mathlib.Omega.{arith}
-use borrow.Author.Tests.{eqb-true, ltb-true, ltb-false, lt-ltb, le-ltb, eq-eqb, ne_eqb}
+use borrow.Author.Tests.{eqb-true, ltb-true, ltb-false, lt-ltb, le-ltb}
 use mir.Val.{bool_byte}
 use lib.Dec.{eqb, ltb}
 use lib.ListN.{get_or, length}
@@ -20,7 +20,7 @@ use Rattle.codec.specs.declared.layouts.Span.{Span}
 use Rattle.codec.specs.declared.submessages.Submessage.{Submessage}
 use Rattle.codec.proofs.Either.{either}
 use Rattle.codec.proofs.reading.Laws.{payload_placed, read_payload, read_short, items_more}
-use Rattle.agent.specs.Host.{one_of, headers_in, headers_at, ids_at, asks_in, unbound}
+use Rattle.agent.specs.Host.{one_of, headers_in, headers_at, ids_at, unbound}
 use Rattle.agent.specs.declared.judge.Start.{Start}
 use Rattle.std.specs.Prelude.{Err, Ok, Result}
 use Rattle.codec.specs.declared.submessages.ObjectKind.{ObjectKind}
@@ -205,22 +205,8 @@ module _ (id : ℕ) (d : List ℕ) where
 abbrev pub asks_at : List ℕ → ℕ → ℕ
 asks_at d at = one_at 0x0E d at
 
--- on stream 0 none is answered by held messages
-module _ (x : Start) (d : List ℕ) where
-  pub asks_none : x.frame.stream_id ≡ 0 → 0 ≡ asks_in x d
-  asks_none e = sym (ap (λ (b : Bool). cond b 0 (ids_at 0x0E d x.at)) (eq-eqb x.frame.stream_id 0 e))
-
-  pub asks_all : (x.frame.stream_id ≡ 0 → ⊥) → ids_at 0x0E d x.at ≡ asks_in x d
-  asks_all other = sym (ap (λ (b : Bool). cond b 0 (ids_at 0x0E d x.at)) (ne_eqb x.frame.stream_id 0 other))
-
 -- what has a bound: no rebuilt submessage waits, and no FRAGMENT, 0x0F, stands from the place on
 module _ (x : Start) (d : List ℕ) where
-  pub waits_unbound : (x.left_at ≡ x.left_end → ⊥) → true ≡ unbound x d
-  waits_unbound other = sym (ap (λ (b : Bool). cond b (ltb 0 (ids_at 0x0F d x.at)) true) (ne_eqb x.left_at x.left_end other))
-
-  pub brings_unbound : x.left_at ≡ x.left_end → ltb 0 (ids_at 0x0F d x.at) ≡ unbound x d
-  brings_unbound e = sym (ap (λ (b : Bool). cond b (ltb 0 (ids_at 0x0F d x.at)) true) (eq-eqb x.left_at x.left_end e))
-
   pub is_bound : unbound x d ≡ false → (x.left_at ≡ x.left_end) × (ids_at 0x0F d x.at ≡ 0)
   is_bound e = go (eqb x.left_at x.left_end) refl e
     where

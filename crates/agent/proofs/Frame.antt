@@ -8,8 +8,8 @@ use native.Mathlib.Omega.{arith}
 use native.Mathlib.Nat.{zero-add, suc-add}
 use borrow.Author.Tests.{ltb-true, ltb-false, leb-false, eqb-false}
 use lib.Dec.{eqb, leb, ltb}
-use lib.ListN.{length, get_or, set, take, drop, replicate, take-append-drop}
-use lib.Seq.{set_out, length-take-le, take-append_seam, drop-append_seam, get_or-take, get_or-drop}
+use lib.ListN.{length, get_or, set, take, drop, take-append-drop}
+use lib.Seq.{set_out, length-take-le, take-append_seam, drop-append_seam}
 use Rattle.codec.specs.Bytes.{put_bytes}
 use Rattle.codec.specs.Reading.{read_at, part_of}
 use Rattle.codec.specs.Rebuilt.{rebuilt_of}

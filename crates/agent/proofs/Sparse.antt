@@ -5,7 +5,7 @@ use mathlib.Core.Path.{◌≡◌, refl, sym, ap, ◌∙◌, subst}
 use mathlib.Core.Bool.{Bool, true, false, cond, not}
 use mathlib.Core.List.{List, []}
 use native.Mathlib.Omega.{arith}
-use borrow.Author.Tests.{eqb-true, eqb-false, ltb-true, ltb-false, lt-ltb, le-ltb, eq-eqb, ne_eqb}
+use borrow.Author.Tests.{eqb-true, eqb-false, ltb-true, ltb-false, le-ltb, eq-eqb}
 use lib.Dec.{eqb, leb, ltb}
 use lib.ListN.{get_or, length}
 use lib.Seq.{set_out}
@@ -61,7 +61,7 @@ use Rattle.moves.specs.declared.handle.Opening.TheVariants.{Client, Other}
 use Rattle.agent.specs.Answered.{answered_sessions}
 use Rattle.agent.specs.Lent.{rows_of, rebuilt_part}
 use Rattle.agent.specs.Run.{Turned, touched_in, touched_tables, delivered, taken_of, whole_len, left_by, with_acted, whole_turned, fragment_turned, sub_turned, turned}
-use Rattle.agent.specs.Host.{begun_sessions, one_of, ids_at, unbound, total_at, lesser, headers_in, least_at, received_most, sparse, brings, bounded, roomy}
+use Rattle.agent.specs.Host.{begun_sessions, one_of, ids_at, unbound, total_at, lesser, headers_in, least_at, received_most, sparse, brings}
 use Rattle.agent.specs.declared.judge.Start.{Start}
 use Rattle.agent.specs.declared.turn.Frame.{Frame}
 use Rattle.agent.specs.declared.turn.Ran.{Ran}
@@ -96,9 +96,6 @@ lesser_is a b = go (ltb b a) refl
         record { first = omega (arith, z); second = omega (arith, h, z); most = λ c p q. omega (arith, p, z) }
 
 -- the code's answer for two
-pub lesser_second : (a b : ℕ) → b < a → b ≡ lesser a b
-lesser_second a b h = sym (ap (λ (c : Bool). cond c b a) (lt-ltb b a h))
-
 pub lesser_first : (a b : ℕ) → a ≤ b → a ≡ lesser a b
 lesser_first a b h = sym (ap (λ (c : Bool). cond c b a) (le-ltb b a h))
 
@@ -177,19 +174,8 @@ module _ (d : List ℕ) where
       omega (arith, a, b)
 
 -- the total at a place
-module _ (d : List ℕ) (at : ℕ) where
-  total_by : (a b : Bool) → eqb (get_or d at 0) 0x0F ≡ a → ltb (length d) (at + 8) ≡ b → cond a (cond b 0 (word_at d (at + 6))) 65536 ≡ total_at d at
-  total_by a b p q = λ i. cond (sym p i) (cond (sym q i) 0 (word_at d (at + 6))) 65536
-
-  pub total_other : (get_or d at 0 ≡ 0x0F → ⊥) → (65536 ≡ total_at d at) × (65536 ≤ 65536)
-  total_other other = (total_by false _ (ne_eqb (get_or d at 0) 0x0F other) refl, omega arith)
-
-  module _ (own : get_or d at 0 ≡ 0x0F) where
-    pub total_cut : length d < at + 8 → (0 ≡ total_at d at) × (0 ≤ 65536)
-    total_cut h = (total_by true true (eq-eqb (get_or d at 0) 0x0F own) (lt-ltb (length d) (at + 8) h), omega arith)
-
-    pub total_there : at + 8 ≤ length d → (n : ℕ) → n ≡ word_at d (at + 6) → n ≤ 65535 → (n ≡ total_at d at) × (n ≤ 65536)
-    total_there h n e few = (e ∙ total_by true false (eq-eqb (get_or d at 0) 0x0F own) (le-ltb (length d) (at + 8) h), omega (arith, few))
+total_by : (d : List ℕ) (at : ℕ) (a b : Bool) → eqb (get_or d at 0) 0x0F ≡ a → ltb (length d) (at + 8) ≡ b → cond a (cond b 0 (word_at d (at + 6))) 65536 ≡ total_at d at
+total_by d at a b p q = λ i. cond (sym p i) (cond (sym q i) 0 (word_at d (at + 6))) 65536
 
 -- a FRAGMENT that is read says its total
 abbrev total_in : Result (Submessage × Span × Cursor) Refusal → ℕ
@@ -571,21 +557,6 @@ module _ (x : Start) (s : List (List ℕ)) (d : List ℕ) where
   pub none_sparse : count ≡ 0 → true ≡ sparse x s d
   none_sparse e = sparse_by true _ (eq-eqb count 0 e) refl
 
-  -- as the code finds it: n of them, and m their least total
-  module _ (n m : ℕ) (all : n ≡ count) (least : m ≡ least_at d x.at) (some : n ≡ 0 → ⊥) where
-    many : eqb count 0 ≡ false
-    many = ne_eqb count 0 (λ z. some (all ∙ z))
-
-    pub least_short : m ≤ n → false ≡ sparse x s d
-    least_short h = sparse_by false false many (le-ltb (received_most x s d) (least_at d x.at) (omega (arith, h, all, least)))
-
-    pub least_over : n < m → (k : ℕ) → k ≡ holds → ltb k (m - n) ≡ sparse x s d
-    least_over h k e = go (ltb k (m - n)) refl
-      where
-        go : (b : Bool) → ltb k (m - n) ≡ b → b ≡ sparse x s d
-        go true q = let l = ltb-true k (m - n) q in sparse_by false true many (lt-ltb (received_most x s d) (least_at d x.at) (omega (arith, h, l, e, all, least)))
-        go false q = let l = ltb-false k (m - n) q in sparse_by false false many (le-ltb (received_most x s d) (least_at d x.at) (omega (arith, h, l, e, all, least)))
-
   brings_by : (a b : Bool) → eqb x.left_at x.left_end ≡ a → sparse x s d ≡ b → cond a (not b) true ≡ brings x s d
   brings_by a b p q = λ i. cond (sym p i) (not (sym q i)) true
 
@@ -600,17 +571,3 @@ module _ (x : Start) (s : List (List ℕ)) (d : List ℕ) where
       go true true p q z = (eqb-true x.left_at x.left_end p, q)
       go true false p q z = let n : ◌≡◌ {A = ℕ} 0 1 = cc in absurd (omega (arith, n))
       go false b p q z = let n : ◌≡◌ {A = ℕ} 0 1 = cc in absurd (omega (arith, n))
-
-  -- whether a run is spared, as the code finds it
-  module _ (room n sample : ℕ) where
-    spared_by : (b : Bool) → brings x s d ≡ b → cond b false (bounded room x n d sample) ≡ roomy room x s n d sample
-    spared_by b e = ap (λ (c : Bool). cond c false (bounded room x n d sample)) (sym e)
-
-    pub waits_run : (x.left_at ≡ x.left_end → ⊥) → false ≡ roomy room x s n d sample
-    waits_run other = spared_by true (sym (brings_by false _ (ne_eqb x.left_at x.left_end other) refl))
-
-    pub dense_run : x.left_at ≡ x.left_end → sparse x s d ≡ false → false ≡ roomy room x s n d sample
-    dense_run none e = spared_by true (sym (brings_by true false (eq-eqb x.left_at x.left_end none) e))
-
-    pub by_bounded : x.left_at ≡ x.left_end → sparse x s d ≡ true → bounded room x n d sample ≡ roomy room x s n d sample
-    by_bounded none e = spared_by false (sym (brings_by true true (eq-eqb x.left_at x.left_end none) e))

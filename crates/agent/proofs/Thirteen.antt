@@ -1,10 +1,10 @@
 -- 13 is exact: what is roomy is never too short; and what a call then leaves.
-use Prim.Native.Nat.{ℕ, ◌+◌, ◌-◌, ◌*◌, ◌/◌, ◌<◌, ◌≤◌}
+use Prim.Native.Nat.{ℕ, ◌+◌, ◌-◌, ◌*◌, ◌/◌, ◌≤◌}
 use mathlib.Core.Path.{◌≡◌, refl, sym, ap, ◌∙◌}
 use mathlib.Core.Bool.{Bool, true, false, cond}
 use mathlib.Core.List.{List, []}
 use native.Mathlib.Omega.{arith}
-use borrow.Author.Tests.{ltb-false, leb-true, le-ltb, le-leb, lt-leb, lt-ltb}
+use borrow.Author.Tests.{ltb-false, leb-true, le-ltb, le-leb}
 use lib.Dec.{eqb, leb, ltb}
 use lib.ListN.{length, length-append}
 use Rattle.codec.specs.declared.submessages.ObjectNumber.{ObjectNumber}
@@ -45,38 +45,6 @@ use Rattle.codec.specs.declared.refusals.Refusal.TheVariants.{OutputTooShort}
 use Rattle.std.specs.Prelude.{Err, None, Ok, Option, Result, Some}
 use Rattle.sessions.specs.declared.table.ClientSession.{ClientSession}
 use Rattle.codec.specs.declared.refusals.Refusal.{Refusal}
-
--- ---- the bound, as it is computed
-
-pub sample_within : (told : BridgeAnswer) (n : ℕ) → told ≡ Sample → n ≤ 65533 → 10 + n ≡ answer_most told n
-sample_within told n e h = sym (ap (λ (a : BridgeAnswer). answer_most a n) e ∙ ap (λ (b : Bool). cond b (10 + n) 65543) (le-leb n 65533 h))
-
-pub sample_over : (told : BridgeAnswer) (n : ℕ) → told ≡ Sample → 65533 < n → 65543 ≡ answer_most told n
-sample_over told n e h = sym (ap (λ (a : BridgeAnswer). answer_most a n) e ∙ ap (λ (b : Bool). cond b (10 + n) 65543) (lt-leb n 65533 h))
-
--- 13 by its tests: the reply to the answer, 12 bytes to each submessage, and the ACKNACKs
-module _ (room : ℕ) (x : Start) (n : ℕ) (d : List ℕ) (sample first : ℕ) (e : first ≡ first_most x.resumes sample) where
-  -- how many ACKNACKs there is room for
-  abbrev spare : ℕ
-  spare = (room - first - 12 * n) / 16384
-
-  bounded_by : (a b c w : Bool) → ltb room first ≡ a → ltb ((room - first) / 12) n ≡ b → leb n spare ≡ c → leb (asks_in x d) spare ≡ w
-      → cond a false (cond b false (cond c true w)) ≡ bounded room x n d sample
-  bounded_by a b c w p q r s =
-      (λ i. cond (sym p i) false (cond (sym q i) false (cond (sym r i) true (sym s i))))
-      ∙ ap (λ (k : ℕ). cond (ltb room k) false (cond (ltb ((room - k) / 12) n) false (cond (leb n ((room - k - 12 * n) / 16384)) true (leb (asks_in x d) ((room - k - 12 * n) / 16384))))) e
-
-  pub no_room : room < first → false ≡ bounded room x n d sample
-  no_room h = bounded_by true _ _ _ (lt-ltb room first h) refl refl refl
-
-  pub few_bytes : first ≤ room → (room - first) / 12 < n → false ≡ bounded room x n d sample
-  few_bytes h k = bounded_by false true _ _ (le-ltb room first h) (lt-ltb ((room - first) / 12) n k) refl refl
-
-  pub for_all : first ≤ room → n ≤ (room - first) / 12 → n ≤ spare → true ≡ bounded room x n d sample
-  for_all h k l = bounded_by false false true _ (le-ltb room first h) (le-ltb ((room - first) / 12) n k) (le-leb n spare l) refl
-
-  pub for_acknacks : first ≤ room → n ≤ (room - first) / 12 → spare < n → leb (asks_in x d) spare ≡ bounded room x n d sample
-  for_acknacks h k l = bounded_by false false false _ (le-ltb room first h) (le-ltb ((room - first) / 12) n k) (lt-leb n spare l) refl
 
 -- ---- how much a call can reply
 

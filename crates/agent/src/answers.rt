@@ -123,17 +123,11 @@ fn answers_now(
 ) -> bool
     ensures { result ≡ answers_now resumes got }
 {
-    match resumes {
-        None => false,
-        Some((_, _, _)) => match got {
-            Ok(Some(_)) => true,
-            Ok(None) => false,
-            Err(_) => false,
-        },
-    }
+    resumes.is_some() && matches!(got, Ok(Some(_)))
 }
 
-// What the answer that a run begins with lists and says, and for which object.
+// What the answer that a run begins with lists and says, and for which object: taken apart by value (decision 80), as `told_by` of
+// specs/Host.antt has it.
 #[derive(Clone, Copy, Debug, PartialEq, Eq)]
 struct Told {
     pub keeps: Option<Object>,

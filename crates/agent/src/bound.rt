@@ -9,6 +9,11 @@ use codec::submessages::ObjectNumber;
 use moves::proxy::{BridgeAnswer, Task};
 use sessions::table::SessionRow;
 
+// The ids of the two kinds that are counted.
+const ACKNACK: u8 = 0x0E;
+
+const FRAGMENT: u8 = 0x0F;
+
 fn first_most(resumes: Option<(ObjectNumber, Task, BridgeAnswer)>, sample: usize) -> usize
     ensures { result ≡ first_most resumes sample }
 {
@@ -52,7 +57,7 @@ fn count_ids(d: &[u8], id: u8, from: usize) -> usize
     let len = d.len();
     let mut at = from;
     let mut n: usize = 0;
-    // A `while`, since each header says where the next stands: an iterator of their places would not tell its closures that they are in bounds.
+    // A `while`, since each header says where the next stands: an iterator over them would have this body, and laws besides.
     while at < len && 4 <= len - at {
         n += usize::from(d[at] == id);
         at += 4 + payload_length(d, at);
@@ -67,7 +72,7 @@ fn asks_in(d: &[u8], s: Start) -> usize
     if s.frame.stream_id == 0 {
         return 0;
     }
-    count_ids(d, 14, s.at)
+    count_ids(d, ACKNACK, s.at)
 }
 
 // Whether the output is long enough whatever the submessages say. ACKNACKs are counted only where it isn't for as many as
@@ -94,7 +99,7 @@ pub(crate) fn is_roomy(room: usize, d: &[u8], s: Start, n: usize, sample: usize)
 pub(crate) fn is_unbound(d: &[u8], s: Start) -> bool
     ensures { result ≡ unbound s d.now }
 {
-    s.left_at != s.left_end || 0 < count_ids(d, 15, s.at)
+    s.left_at != s.left_end || 0 < count_ids(d, FRAGMENT, s.at)
 }
 
 // The total of the FRAGMENT, 0x0F, at a place: number (2), total (2), body. More than any where another submessage stands; 0, as of one
@@ -103,7 +108,7 @@ fn total_at(d: &[u8], at: usize) -> usize
     requires { at + 4 ≤ length d.now }
     ensures { (result ≡ total_at d.now at) × (result ≤ 65536) }
 {
-    if d[at] != 15 {
+    if d[at] != FRAGMENT {
         return 65536;
     }
     if d.len() - at < 8 {
@@ -138,7 +143,7 @@ fn received_at(sessions: &[SessionRow], id: u8) -> u64
 fn is_sparse(sessions: &[SessionRow], d: &[u8], s: Start) -> bool
     ensures { result ≡ sparse s sessions.now d.now }
 {
-    let n = count_ids(d, 15, s.at);
+    let n = count_ids(d, FRAGMENT, s.at);
     if n == 0 {
         return true;
     }

@@ -2,7 +2,6 @@
 // submessages under the header of its datagram.
 ghost use Rattle.std.specs.Prelude.{◌≡◌, ◌≤◌};
 ghost use Rattle.agent.specs.Lent.{rebuilt_part};
-ghost use Rattle.agent.specs.Judge.{is_read};
 ghost use Rattle.agent.specs.Run.{put_replies, entered_ran, inside_stop, left_ran, whole_len, gathers, gathered_len, whole_turned, fragment_turned};
 ghost use Rattle.agent.specs.Stores.{stores_of, SamePlaces};
 
@@ -21,10 +20,9 @@ fn entered(r: Ran) -> Ran
     ensures { result ≡ entered_ran r }
 {
     Ran {
-        next: r.next,
         at: 0,
-        wrote: r.wrote,
         stop: Stop::Nothing,
+        ..r
     }
 }
 
@@ -43,13 +41,10 @@ fn inside_stop(stop: Stop, at: usize, end: usize) -> Stop
 pub(crate) fn left(y: Ran, end: usize, at: usize) -> Ran
     ensures { result ≡ left_ran y end at }
 {
-    let was = y.stop;
-    let stop = inside_stop(was, y.at, end);
     Ran {
-        next: y.next,
         at,
-        wrote: y.wrote,
-        stop,
+        stop: inside_stop(y.stop, y.at, end),
+        ..y
     }
 }
 
@@ -64,18 +59,8 @@ fn whole_len(g: Gathered) -> usize
     ensures { result ≡ whole_len g }
 {
     match g {
-        Gathered::Nothing => 0,
-        Gathered::Held(_) => 0,
+        Gathered::Nothing | Gathered::Held(_) => 0,
         Gathered::Whole(n) => n,
-    }
-}
-
-pub(crate) fn is_read(r: Result<usize, Refusal>) -> bool
-    ensures { result ≡ is_read r }
-{
-    match r {
-        Ok(_) => true,
-        Err(_) => false,
     }
 }
 
@@ -90,7 +75,7 @@ fn work_off(stores: &mut Stores, out: &mut [u8], f: Frame, n: usize, r: Ran, at:
 {
     let rebuilt = &mut *stores.rebuilt;
     let s = rebuilt_part(rebuilt, n);
-    if is_read(check_rebuilt(s)) {
+    if check_rebuilt(s).is_ok() {
         let first = entered(r);
         let held = &mut *stores.held;
         let y = lead(

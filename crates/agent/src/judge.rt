@@ -17,7 +17,7 @@ use moves::proxy::{BridgeAnswer, Task, fits};
 use sessions::limits::within_limits;
 use sessions::sending::data_slot;
 
-// A call of the host: a datagram, or the bridge's answer.
+// A call of the host: a datagram, or the bridge's answer. No Option: a datagram is no answer that is missing.
 #[derive(Clone, Copy, Debug, PartialEq, Eq)]
 pub enum Input {
     Datagram,
@@ -39,6 +39,7 @@ pub(crate) struct Start {
     pub at: usize,
     pub left_at: usize,
     pub left_end: usize,
+    // A triple, as specs/Host.antt takes it apart.
     pub resumes: Option<(ObjectNumber, Task, BridgeAnswer)>,
 }
 

@@ -29,7 +29,7 @@ pub(crate) struct Leg {
     pub found: Option<Taken>,
 }
 
-// What is done with a submessage.
+// What is done with a submessage: a word of specs/Legs.antt (`step_of`), by which the laws of a leg go.
 #[derive(Clone, Copy, Debug, PartialEq, Eq)]
 pub(crate) enum Step {
     Greets,
@@ -119,11 +119,7 @@ fn is_call(s: Stop) -> bool
 pub(crate) fn goes_on(len: usize, r: Ran) -> bool
     ensures { result ≡ goes_on len r }
 {
-    let stop = r.stop;
-    if is_call(stop) {
-        return false;
-    }
-    r.at < len
+    !is_call(r.stop) && r.at < len
 }
 
 fn is_entering(m: Mode) -> bool

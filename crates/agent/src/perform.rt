@@ -51,6 +51,7 @@ pub(crate) fn perform_plain(
     ensures out { out.new ≡ put_replies start.frame.room out.old 0 (plain_performed start (stores_of stores.old) d.now sample.now).replies }
     ensures places { SamePlaces stores.old stores.new }
 {
+    // A datagram pays for no call of `begin`.
     let wrote = match start.resumes {
         Some(_) => begin(stores, out, sample, start),
         None => 0,

@@ -18,7 +18,7 @@ use sessions::objects::Object;
 use sessions::stream_rows::StreamRow;
 use sessions::table::SessionRow;
 
-// The bytes replied, at the start of the output; the same with a call handed out; or why not.
+// The bytes replied, at the start of the output; the same with a call handed out.
 #[derive(Clone, Copy, Debug, PartialEq, Eq)]
 pub enum Outcome {
     Replied(usize),
@@ -43,59 +43,46 @@ fn refused(agent: Agent, x: Refusal) -> Processed
 fn outcome_of(ran: Ran) -> Result<Outcome, Refusal>
     ensures { result ≡ outcome_of ran.stop ran.wrote }
 {
-    let wrote = ran.wrote;
-    let stop = ran.stop;
-    match stop {
-        Stop::Nothing => Ok(Outcome::Replied(wrote)),
-        Stop::Call(_, _, call) | Stop::Inside(_, _, call, _, _) => Ok(Outcome::Called(call, wrote)),
+    match ran.stop {
+        Stop::Nothing => Ok(Outcome::Replied(ran.wrote)),
+        Stop::Call(_, _, call) | Stop::Inside(_, _, call, _, _) => {
+            Ok(Outcome::Called(call, ran.wrote))
+        }
     }
 }
 
 fn waits_of(s: Start, ran: Ran) -> Option<Pending>
     ensures { result ≡ waits_of s.frame ran.stop ran.at }
 {
+    let (number, task, left_at, left_end) = match ran.stop {
+        Stop::Nothing => return None,
+        Stop::Call(number, task, _) => (number, task, 0, 0),
+        Stop::Inside(number, task, _, left_at, left_end) => (number, task, left_at, left_end),
+    };
     let frame = s.frame;
-    let moment = frame.moment;
-    let stop = ran.stop;
-    match stop {
-        Stop::Nothing => None,
-        Stop::Call(number, task, _) => Some(Pending {
-            session_id: frame.session_id,
-            stream_id: frame.stream_id,
-            number,
-            task,
-            at: ran.at,
-            moment,
-            left_at: 0,
-            left_end: 0,
-        }),
-        Stop::Inside(number, task, _, left_at, left_end) => Some(Pending {
-            session_id: frame.session_id,
-            stream_id: frame.stream_id,
-            number,
-            task,
-            at: ran.at,
-            moment,
-            left_at,
-            left_end,
-        }),
-    }
+    Some(Pending {
+        session_id: frame.session_id,
+        stream_id: frame.stream_id,
+        number,
+        task,
+        at: ran.at,
+        moment: frame.moment,
+        left_at,
+        left_end,
+    })
 }
 
 fn finished(agent: Agent, s: Start, ran: Ran) -> Processed
     ensures { result ≡ finished_of agent s ran }
 {
-    let waits = waits_of(s, ran);
-    let outcome = outcome_of(ran);
     let after = Agent {
-        max_clients: agent.max_clients,
-        timeout_ms: agent.timeout_ms,
         next: ran.next,
-        waits,
+        waits: waits_of(s, ran),
+        ..agent
     };
     Processed {
         agent: after,
-        outcome,
+        outcome: outcome_of(ran),
     }
 }
 

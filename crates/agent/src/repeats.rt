@@ -15,7 +15,7 @@ use sessions::session_streams::read_stream;
 use sessions::stream_rows::StreamRow;
 use sessions::table::SessionRow;
 
-// One of them, from `at` on; the place behind it.
+// One of them, from `at` on; the place behind it. On slices, as its callers are: the stores are lent to them one by one.
 fn repeat_one(
     sessions: &[SessionRow],
     streams: &[StreamRow],

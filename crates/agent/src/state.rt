@@ -19,7 +19,7 @@ pub struct Moment {
 
 // The submessage of the open call: its header's session and stream, its object, what the call is for, the place behind it
 // in its datagram, and that datagram's moment. If it was rebuilt from fragments (document 02, W6), the call shows parts of the first
-// `left_end` rebuilt bytes, and the submessages from `left_at` on wait behind it; else both are 0.
+// `left_end` rebuilt bytes, and the submessages from `left_at` on wait behind it; else both are 0. Two numbers, and no Option: the C record holds any pair, and 16 is asked of them as they stand.
 #[derive(Clone, Copy, Debug, PartialEq, Eq)]
 pub struct Pending {
     pub session_id: u8,

@@ -21,7 +21,8 @@ use sessions::opening::create_session;
 use sessions::stream_rows::StreamRow;
 use sessions::table::{SessionRow, touch};
 
-// What a datagram's submessages have in common: the limit, the moment, the header's session and stream, and the output's room.
+// What a datagram's submessages have in common: the limit, the moment, the header's session and stream, and the output's room. That the room
+// leaves place to count on is a clause of those who count, and no ghost field: specs/ makes frames of any numbers.
 #[derive(Clone, Copy, Debug, PartialEq, Eq)]
 pub(crate) struct Frame {
     pub max_clients: usize,
@@ -32,7 +33,7 @@ pub(crate) struct Frame {
 }
 
 // A call ends the run: of a submessage as it stands in its bytes; or of a rebuilt one, with the place behind it in the rebuilt
-// bytes, and how many these are.
+// bytes, and how many these are. Three cases, and no Option: specs/Run.antt and Legs.antt go by them.
 #[derive(Clone, Copy, Debug, PartialEq, Eq)]
 pub(crate) enum Stop {
     Nothing,
@@ -106,13 +107,7 @@ pub(crate) fn greet(
 pub(crate) fn passed(r: Ran, at: usize) -> Ran
     ensures { result ≡ passed r at }
 {
-    let stop = r.stop;
-    Ran {
-        next: r.next,
-        at,
-        wrote: r.wrote,
-        stop,
-    }
+    Ran { at, ..r }
 }
 
 pub(crate) fn is_live(named: Result<bool, Refusal>) -> bool

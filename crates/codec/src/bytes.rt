@@ -1,4 +1,5 @@
-// Numbers of two bytes, and bytes written into a lent output.
+// Numbers of two bytes, and bytes written into a lent output. A slice and a place, and no struct of both: the public writers take both, and their
+// clauses speak of the whole output.
 ghost use Rattle.std.specs.Prelude.{◌≡◌, ◌++◌, ◌+◌, ◌≤◌, leb, length};
 ghost use Rattle.codec.specs.Bytes.{word_at, le16, put_at, put_of, put_bytes};
 

@@ -32,11 +32,7 @@ impl FragmentHeader {
         ensures { (result ≡ put_of out.old 0 (fragment_bytes self.fragment_nr self.total_fragments []))
             × (out.new ≡ put_bytes out.old 0 (fragment_bytes self.fragment_nr self.total_fragments [])) }
     {
-        if out.len() < 4 {
-            return Err(Refusal::OutputTooShort);
-        }
-        put_two(out, 0, self.fragment_nr, self.total_fragments);
-        Ok(4)
+        self.put_with(&[], out)
     }
 
     // The header and the body behind it, or 13 and no byte.

@@ -25,7 +25,8 @@ pub struct Cursor {
     pub at: usize,
 }
 
-// Stands in LEAST for an id that is not listed.
+// Stands in LEAST for an id that is not listed. A mark, and no Option: `least_len` is public with this clause, and an edit (one_least_length)
+// changes the table.
 pub const UNLISTED: u8 = 255;
 
 // The least payload lengths by submessage id.
@@ -43,6 +44,7 @@ pub fn least_len(id: u8) -> u8
     }
 }
 
+// One function a layout, and one each with and without a variable part: the payloads' fields have names of their own, and specs/Layouts.antt has each.
 // A layout with no variable part: bytes beyond it are ignored.
 fn plain_at(m: Submessage, p: usize, len: usize) -> Result<(Submessage, Span, Cursor), Refusal>
     requires { p + len < 2 ^ 64 }

@@ -1,6 +1,7 @@
 // Reassembly: the fragments of one payload, kept in lent slots of one width, with lengths.
 // Slot k is the `width` bytes from `k * width` on. `lengths[k]` is 0 while it is free, and 1 more than its body's length while it
 // holds one, since a body may have no bytes. So the store's need is its slots and 4 bytes for each.
+// Entries and no Options, and slots and lengths beside the buffer: the host lends both (fixed memory, a C interface), and the methods are public.
 ghost use Rattle.std.specs.Prelude.{◌≡◌, false, ◌++◌, ◌+◌, ◌*◌, ◌-◌, ◌≤◌, ◌<◌, length, take, drop, get_or, replicate};
 ghost use Rattle.codec.specs.Bytes.{put_at};
 ghost use Rattle.codec.specs.Cutting.{joined};
@@ -60,9 +61,8 @@ impl ReassemblyBuffer {
         let all = count == (self.total_fragments as u32);
         Ok((
             ReassemblyBuffer {
-                total_fragments: self.total_fragments,
                 received_count: count as u16,
-                width: self.width,
+                ..self
             },
             all,
         ))
@@ -157,6 +157,7 @@ impl ReassemblyBuffer {
     fn assemble_check(self, slots: usize, lengths: &[u32]) -> Result<(), Refusal>
         ensures { result ≡ assemble_check self slots lengths.now }
     {
+        // Not by `is_over`: its answer alone doesn't say that the lengths are there, which `any_free` asks for.
         if under_need(self.total_fragments, self.width, slots, lengths.len()) {
             return Err(Refusal::OverLimit);
         }
@@ -238,6 +239,7 @@ fn bytes_held(lengths: &[u32], total: u16) -> usize
     requires { (total ≤ length lengths.now) × (any_of is_free (take total lengths.now) ≡ false) }
     ensures { result ≡ bytes_held (take total lengths.now) }
 {
+    // A `for`, and no `sum`: each step is shown to fit by what the bodies before it have.
     let mut sum: usize = 0;
     for held in &lengths[..total as usize] {
         sum += (*held - 1) as usize;

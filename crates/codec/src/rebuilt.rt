@@ -9,13 +9,7 @@ use crate::refusals::Refusal;
 fn or_barred(before: bool, id: u8) -> bool
     ensures { result ≡ (before || barred_id id) }
 {
-    if before {
-        return true;
-    }
-    match id {
-        0x00 | 0x0F => true,
-        _ => false,
-    }
+    before || matches!(id, 0x00 | 0x0F)
 }
 
 // The submessages from `from` to the end, counted; the first failure refuses the whole, and 17 is for bytes that read to the end.

@@ -27,7 +27,7 @@ pub enum Refusal {
 }
 
 impl Refusal {
-    // The number that the documents give the refusal.
+    // The number that the documents give the refusal. No cast gives it, since three of them carry a byte.
     pub fn number(self) -> u8
         ensures { result ≡ number_of self }
     {

@@ -11,7 +11,8 @@ struct Wait {
     high: u8,
 }
 
-// No character needs so many: the bytes until here begin no text.
+// No character needs so many: the bytes until here begin no text. A mark, and no Option: specs/Text.antt's words are these numbers, and the same
+// edits change them; with an enum in the loop a byte took three times as long (decision 150).
 const ILL_FORMED: u8 = 4;
 
 fn waits(need: u8, low: u8, high: u8) -> Wait

@@ -64,15 +64,11 @@ fn put_fixed(out: &mut [u8], at: usize, m: Submessage)
     match m {
         Submessage::CreateClient(p) => put_client(out, at, p.client_key, p.properties),
         Submessage::Create(p) => {
-            let kind = p.kind;
-            put_marked(out, at, p.object_id, kind.as_u8());
+            put_marked(out, at, p.object_id, p.kind.as_u8());
             put_word(out, at + 3, p.parent_id);
         }
         Submessage::Delete(p) => put_word(out, at, p.object_id.0),
-        Submessage::Status(p) => {
-            let status = p.status;
-            put_marked(out, at, p.related_object_id, status.as_u8());
-        }
+        Submessage::Status(p) => put_marked(out, at, p.related_object_id, p.status.as_u8()),
         Submessage::WriteData(p) => put_word(out, at, p.writer_id.0),
         Submessage::ReadData(p) => put_two(out, at, p.reader_id.0, p.max_samples),
         Submessage::Data(p) => put_word(out, at, p.reader_id.0),
@@ -125,7 +121,8 @@ pub fn write_submessage(
     Err(Refusal::OutputTooShort)
 }
 
-// Writes a message of the header and the submessage from `at` on.
+// Writes a message of the header and the submessage from `at` on. Not over `write_submessage`: all sizes are known before the first byte, and an edit
+// (room_for_a_header_taken_for_enough) changes this one.
 pub fn write_message(
     out: &mut [u8],
     at: usize,

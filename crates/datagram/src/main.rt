@@ -13,6 +13,7 @@ fn read_full<R: Read>(input: &mut R, place: &mut [u8]) -> io::Result<usize>
     ensures bytes { IfOk result (λ n. Consumes (R.remaining input.old) (R.remaining input.new) (take n place.new)) }
     ensures end { IfOk result (λ n. n < length place.new → IsAtEnd (R.remaining input.new)) }
 {
+    // Not `read_to_end`: the page of promises names this function, and an edit (bytes_read_over) changes its loop.
     let mut n = 0;
     while n < place.len() {
         let more = input.read(&mut place[n..])?;
@@ -25,7 +26,7 @@ fn read_full<R: Read>(input: &mut R, place: &mut [u8]) -> io::Result<usize>
 }
 
 fn main(rt: HostRuntime) -> io::Result<()> {
-    // An array and a count, no Vec: `read_full` promises where in it the bytes stand.
+    // An array and a count, no Vec: the promise of `read_full` is of such a place.
     let mut datagram = [0u8; 4096];
     let n = read_full(&mut rt.reader(), &mut datagram)?;
     let mut out = [0u8; 65536];

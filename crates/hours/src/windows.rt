@@ -4,6 +4,7 @@ ghost use Rattle.hours.specs.Windows.{window_of, windows_of, holds, is_open, beh
 
 use codec::refusals::Refusal;
 
+// Three numbers, and no struct: the C interface lends them so.
 pub type WindowRow = [u16; 3];
 
 pub(crate) const DAY_MINUTES: usize = 1440;

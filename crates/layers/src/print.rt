@@ -1,4 +1,4 @@
-// What a line of an answer is made of beside names and numbers. The program `replay` has the like: the two share no crate.
+// What a line of an answer is made of beside names and numbers. The program `replay` has the like: the two share no library of theirs (decision 81).
 use codec::refusals::Refusal;
 use std::io::Write;
 use std::{fmt, io};

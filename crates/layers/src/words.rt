@@ -32,7 +32,7 @@ pub fn number(line: &[u8], index: usize) -> u64 {
     word(line, index).iter().fold(0, |n, b| with_digit(n, *b))
 }
 
-// Its low 8 bits.
+// Its low 8 bits. Two functions, and no generic one: no conversion of the library takes low bits.
 pub fn number_8(line: &[u8], index: usize) -> u8 {
     (number(line, index) % 256) as u8
 }
@@ -42,6 +42,7 @@ pub fn number_16(line: &[u8], index: usize) -> u16 {
     (number(line, index) % 65536) as u16
 }
 
+// By hand, and not the library's `hex`: the format takes any word, and other bytes count as 0.
 fn two_digits(high: u8, low: u8) -> u8 {
     16 * digit(high) + digit(low)
 }

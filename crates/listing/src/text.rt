@@ -9,7 +9,8 @@ const SPACE: u8 = b' ';
 const NEWLINE: u8 = b'\n';
 
 // A lent output, and the place behind what is put. A byte that has no place is left out, and what follows it is past the end: the
-// place behind the last byte tells whether all of them fit. Where `write` is false nothing is written, and the text is only measured.
+// place behind the last byte tells whether all of them fit. Where `write` is false nothing is written, and the text is only measured:
+// one text for both, told apart by a flag, since a refused listing changes no byte and there is no heap to build it in.
 #[derive(Drop)]
 pub(crate) struct Page<'a> {
     pub(crate) out: &'a mut [u8],

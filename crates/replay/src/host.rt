@@ -9,7 +9,6 @@ use crate::words::decode;
 use agent::agent::{evict_expired, first_open, list_objects, remove_session};
 use agent::process::{Outcome, Processed};
 use agent::state::{Agent, Given};
-use codec::refusals::Refusal;
 use hours::windows::WindowRow;
 use moves::proxy::BridgeAnswer;
 use std::alloc::{AllocError, Global};
@@ -43,11 +42,9 @@ fn say(
         }
         Ok(Outcome::Called(call, n)) => {
             replies(to, out, n)?;
-            let left_end = p.agent.waits.map_or(0, |w| w.left_end);
-            let bytes = if left_end == 0 {
-                datagram
-            } else {
-                front(rebuilt, left_end)
+            let bytes = match p.agent.waits {
+                Some(waits) if waits.left_end != 0 => front(rebuilt, waits.left_end),
+                _ => datagram,
             };
             writeln!(to, "{}", Call { call, bytes })
         }

@@ -36,7 +36,7 @@ pub fn cut(word: &[u8], at: u8) -> Result<(&[u8], &[u8]), Fault> {
     }
 }
 
-// The digits of the bytes that a word is, two a byte.
+// The digits of the bytes that a word is, two a byte. By hand, and not the library's `hex`: capital digits are not in the format.
 pub fn digits(word: &[u8]) -> Result<&[u8], Fault> {
     if word == b"-".as_slice() {
         return Ok(b"");

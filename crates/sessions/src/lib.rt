@@ -1,4 +1,5 @@
-// The sessions of session.rs: the table of sessions by id, and the objects and streams of each.
+// The sessions of session.rs: the table of sessions by id, and the objects and streams of each. A function takes the tables that it needs, one by one,
+// and no struct of all: its parameters show what it can't change (decision 186).
 #![tactic(auto)]
 
 pub mod fragments;

@@ -1,5 +1,5 @@
-// The objects of one session: a lent row of records, of which the first `used` are in use. Every function only fetches
-// and stores; what it decides by is in `objects`. A put needs the free places behind those in use, so `used` goes beside the row.
+// The objects of one session: a lent row of records, of which the first `used` are in use. What a function decides by is
+// in `objects`. A put needs the free places behind those in use, so `used` goes beside the row.
 ghost use Rattle.std.specs.Prelude.{◌≡◌, ◌≤◌, length, Ok};
 ghost use Rattle.std.specs.List.{list_any};
 ghost use Rattle.sessions.specs.View.{entry_of};

@@ -1,11 +1,10 @@
-// The record of an object, and every decision that the rows of objects take, by value.
+// The record of an object, and what the rows of objects decide by, by value.
 ghost use Rattle.std.specs.Prelude.{◌≡◌};
 ghost use Rattle.sessions.specs.Objects.{bridged_of, implicit_of, handle_of, is_numbered};
 ghost use Rattle.sessions.specs.View.{entry_of};
 ghost use Rattle.sessions.specs.Dependants.{kinds_depend, depends_on};
 ghost use Rattle.sessions.specs.Removal.{is_above};
 
-use codec::refusals::Refusal;
 use codec::submessages::ObjectNumber;
 
 // What the bridge knows an entity by. One is made of a bridge's answer, or read out of a record that holds one: a bridge

@@ -36,6 +36,7 @@ fn free_id(sessions: &[SessionRow], next: u8) -> Option<u8>
     ensures is { unwrap_or result 0 ≡ free_of sessions.now next }
     ensures above { IfSome result (λ id. 0 < id) }
 {
+    // The id stands beside the `for`: behind 255 comes 1.
     let mut id = next;
     for _ in 0..u8::MAX {
         if session_at(sessions, id).live == 0 {
@@ -96,7 +97,7 @@ fn mark(sessions: &[SessionRow], taken: &mut [u8], id: u8)
     }
 }
 
-// The marks of five ids in one number: where it is 0, none of them is live.
+// The marks of five ids in one number: where it is 0, none of them is live. Five reads, as in a sweep's `count_five`, which has the figures.
 pub(crate) fn marks(sessions: &[SessionRow], id: u8) -> u64
     requires { id ≤ 251 }
     ensures { result ≡ 0 → live_from (is_free sessions.now) id 5 ≡ 0 }

@@ -13,7 +13,8 @@ use codec::refusals::Refusal;
 use streams::sent::Recorded;
 use streams::state::BUFFER_BYTES;
 
-// A part of the store of held messages.
+// A part of the store of held messages. That it lies within the store is a clause of those who make one, and no ghost field, which can't name the store. Its length
+// is written out: a method would ask of its caller what the subtraction does.
 #[derive(Clone, Copy, Debug, PartialEq, Eq)]
 pub struct Stretch {
     pub start: usize,

@@ -1,8 +1,6 @@
 // Set-up, the counterpart of `SessionTable::new`: every store that the host lends is cleared.
 ghost use Rattle.std.specs.Prelude.{◌≡◌, ◌≤◌, length};
-ghost use Rattle.sessions.specs.Table.{row_of, ended_session};
-ghost use Rattle.sessions.specs.Objects.{blank};
-ghost use Rattle.sessions.specs.Setup.{cleared, no_stream, empty_sessions, empty_streams, empty_objects, set_up_of, leaves};
+ghost use Rattle.sessions.specs.Setup.{cleared, empty_sessions, empty_streams, empty_objects, set_up_of, leaves};
 
 use crate::need::{stores_fit, stores_need};
 use crate::objects::Object;

@@ -8,7 +8,7 @@ use crate::opening::marks;
 use crate::table::{ClientSession, SessionRow, keep_session, session_at};
 use codec::refusals::Refusal;
 
-// Whether a live session has expired.
+// Whether a live session has expired. Time and timeout go as two numbers through the sweep, as the public function takes them: only this test reads them.
 #[tactic(auto, unfolding(crate::specs::Sweep::goes))]
 fn goes(sessions: &[SessionRow], id: u8, time: u64, timeout_ms: u64) -> bool
     ensures { result ≡ goes sessions.now time timeout_ms id }

@@ -8,7 +8,7 @@ use codec::submessages::HeartbeatPayload;
 use std::array;
 
 // How many messages the bitmap asks for (document 02, W5), and the numbers to repeat, in the order of their bits: the
-// first `count` of the sixteen.
+// first `count` of the sixteen. An array and a count: the type is public, and there is no heap to collect into.
 #[derive(Clone, Copy, Debug, PartialEq, Eq)]
 pub struct Acknowledged {
     pub state: StreamState,

@@ -6,7 +6,7 @@ use crate::sequence::{seq_add, seq_lt};
 use crate::state::StreamState;
 use codec::submessages::AcknackPayload;
 
-// The state is the one to keep either way: the one that was handed in where the number is not accepted.
+// A flag, and no Option: the state is the one to keep either way, the one that was handed in where the number is not accepted.
 #[derive(Clone, Copy, Debug, PartialEq, Eq)]
 pub struct Received {
     pub accepted: bool,

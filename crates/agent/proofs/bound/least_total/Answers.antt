@@ -1,5 +1,5 @@
 -- `agent::bound::least_total` meets its contract: the least so far and the least from here on are the least of all.
-use Rattle.std.proofs.Common.{◌≡◌, ◌+◌, min, sym, ◌∙◌, arith}
+use Rattle.std.proofs.Common.{◌≡◌, ◌+◌, arith}
 use Rattle.agent.specs.Host.{lesser}
 use Rattle.agent.proofs.Sparse.{least_all, least_again, least_done, lesser_few, lesser_min}
 use Rattle.agent.proofs.bound.least_total.Goals as goal

@@ -1,5 +1,5 @@
 -- `agent::dry::keep_streams` meets its contract.
-use Rattle.std.proofs.Common.{[], ◌≡◌}
+use Rattle.std.proofs.Common.{[]}
 use Rattle.agent.specs.Dry.{same, stream_spot}
 use Rattle.agent.proofs.Back.{copied_none, copied_more}
 use Rattle.agent.proofs.dry.keep_streams.Goals as goal

@@ -1,5 +1,5 @@
 -- `agent::dry::put_streams_back` meets its contract.
-use Rattle.std.proofs.Common.{[], ◌≡◌}
+use Rattle.std.proofs.Common.{[]}
 use Rattle.agent.specs.Dry.{same, stream_spot}
 use Rattle.agent.proofs.Back.{restored_none, restored_more}
 use Rattle.agent.proofs.dry.put_streams_back.Goals as goal

@@ -29,8 +29,8 @@ module _ (f : Frame) (h s : List ℕ) (n : ℕ) (r : Ran) (at : ℕ) (t : Rows) 
   led_is : is_read (rebuilt_of s) ≡ true → acted_on (leg_at Rebuilt f h s (entered_ran r) t) n at ≡ left_by (rebuilt_of s) f h s n r at t
   led_is e = ap (λ (y : Led). acted_on y n at) (leg_work f h s (entered_ran r) t) ∙ left_is true e
 
-pub returns-then-is_read : goal.returns-then-is_read
-returns-then-is_read c =
+pub returns-then-is_ok : goal.returns-then-is_ok
+returns-then-is_ok c =
     let a = c.args in
     let t = stores_of a.stores.now in
     let s = rebuilt_part t.rebuilt a.n in
@@ -45,8 +45,8 @@ returns-then-is_read c =
       places = search rules;
     })
 
-pub returns-else-is_read : goal.returns-else-is_read
-returns-else-is_read c =
+pub returns-else-is_ok : goal.returns-else-is_ok
+returns-else-is_ok c =
     let a = c.args in
     let t = stores_of a.stores.now in
     let s = rebuilt_part t.rebuilt a.n in
