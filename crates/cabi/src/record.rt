@@ -37,38 +37,21 @@ impl From<&RecordRow> for Record {
     ghost from_gives = { λ row r. r ≡ record_of row.now };
 
     fn from(row: &RecordRow) -> Record {
-        let [
-            max_clients,
-            timeout_ms,
-            next,
-            task,
-            kind,
-            parent,
-            session,
-            stream,
-            number,
-            at,
-            time,
-            is_open,
-            left_at,
-            left_end,
-            ..
-        ] = *row;
         Record {
-            max_clients,
-            timeout_ms,
-            next,
-            task,
-            kind,
-            parent,
-            session,
-            stream,
-            number,
-            at,
-            time,
-            is_open,
-            left_at,
-            left_end,
+            max_clients: row[0],
+            timeout_ms: row[1],
+            next: row[2],
+            task: row[3],
+            kind: row[4],
+            parent: row[5],
+            session: row[6],
+            stream: row[7],
+            number: row[8],
+            at: row[9],
+            time: row[10],
+            is_open: row[11],
+            left_at: row[12],
+            left_end: row[13],
         }
     }
 }
