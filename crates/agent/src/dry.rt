@@ -20,12 +20,15 @@ use sessions::objects::Object;
 use sessions::sending::{Stretch, buffer_stretch};
 use sessions::stream_rows::StreamRow;
 
-// Keeps a stretch of a store at the start of a line of its own.
+// Keeps a stretch of a store at the start of a line of its own. By a loop, since the library's copy, of records that it can't tell apart from the
+// store's, is `memmove`, and the archive of the C interface asks its host for `memcpy` and `memset` alone.
 fn keep<T: Copy>(line: &mut [T], store: &[T], b: Stretch)
     requires { (b.start ≤ b.end) × (b.end ≤ length store.now) × (b.end - b.start ≤ length line.old) }
     ensures { line.new ≡ kept_in line.old store.now b.start (b.end - b.start) }
 {
-    line[..b.end - b.start].copy_from_slice(&store[b.start..b.end]);
+    for i in 0..b.end - b.start {
+        line[i] = store[b.start + i];
+    }
 }
 
 // And puts it back.
@@ -33,7 +36,9 @@ fn put_back<T: Copy>(store: &mut [T], line: &[T], b: Stretch)
     requires { (b.start ≤ b.end) × (b.end ≤ length store.old) × (b.end - b.start ≤ length line.now) }
     ensures { store.new ≡ back_in store.old line.now b.start (b.end - b.start) }
 {
-    store[b.start..b.end].copy_from_slice(&line[..b.end - b.start]);
+    for i in 0..b.end - b.start {
+        store[b.start + i] = line[i];
+    }
 }
 
 // The row of the k-th stream that is kept.

@@ -35,8 +35,18 @@ pub(crate) fn put_two(out: &mut [u8], at: usize, a: u16, b: u16)
     put_word(out, at + 2, b);
 }
 
-// Writes `src` from `at` on, as one copy.
+// Writes `src` from `at` on. A loop, which becomes wide moves: the library's copy is a call, and looks first whether the two overlap.
 pub(crate) fn copy_in(out: &mut [u8], at: usize, src: &[u8])
+    requires { at + length src.now ≤ length out.old }
+    ensures { out.new ≡ put_at out.old at src.now }
+{
+    for i in 0..src.len() {
+        out[at + i] = src[i];
+    }
+}
+
+// The same by the library's copy, for what is long.
+pub(crate) fn copy_long(out: &mut [u8], at: usize, src: &[u8])
     requires { at + length src.now ≤ length out.old }
     ensures { out.new ≡ put_at out.old at src.now }
 {

@@ -3,7 +3,7 @@ ghost use Rattle.std.specs.Prelude.{◌≡◌, [], ◌*◌, ◌<◌, length, tak
 ghost use Rattle.codec.specs.Bytes.{put_of, put_bytes};
 ghost use Rattle.codec.specs.Cutting.{fragment_bytes, fragment_header_of, count_of, fragment_of, fragment_out};
 
-use crate::bytes::{copy_in, put_two, word_at};
+use crate::bytes::{copy_long, put_two, word_at};
 use crate::refusals::Refusal;
 
 #[derive(Clone, Copy, Debug, PartialEq, Eq)]
@@ -47,7 +47,7 @@ impl FragmentHeader {
             return Err(Refusal::OutputTooShort);
         }
         put_two(out, 0, self.fragment_nr, self.total_fragments);
-        copy_in(out, 4, body);
+        copy_long(out, 4, body);
         Ok(4 + body.len())
     }
 }

@@ -202,13 +202,16 @@ pub(crate) fn layout_at(
         0x00 => plain_at(create_client_at(s, p), p, len),
         0x01 => create_at(s, p, len),
         0x02 => plain_at(delete_at(s, p), p, len),
+        0x03..=0x04 => Err(Refusal::UnknownSubmessageId(id)),
         0x05 => status_at(s, p, len),
+        0x06 => Err(Refusal::UnknownSubmessageId(id)),
         0x07 => bodied_at(write_data_at(s, p), 2, p, len),
         0x08 => plain_at(read_data_at(s, p), p, len),
         0x09 => bodied_at(data_at(s, p), 2, p, len),
+        0x0A..=0x0C => Err(Refusal::UnknownSubmessageId(id)),
         0x0D => plain_at(heartbeat_at(s, p), p, len),
         0x0E => plain_at(acknack_at(s, p), p, len),
         0x0F => bodied_at(fragment_at(s, p), 4, p, len),
-        _ => Err(Refusal::UnknownSubmessageId(id)),
+        0x10..=0xFF => Err(Refusal::UnknownSubmessageId(id)),
     }
 }

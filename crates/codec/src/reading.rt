@@ -3,8 +3,8 @@
 ghost use Rattle.std.specs.Prelude.{◌≡◌};
 ghost use Rattle.codec.specs.Reading.{part_of, read_at, count_at, check_of};
 
-use crate::failures::end_at;
-use crate::header::{MESSAGE_HEADER_SIZE, MessageHeader, SUBMESSAGE_HEADER_SIZE};
+use crate::failures::{check_room, end_at};
+use crate::header::{MESSAGE_HEADER_SIZE, MessageHeader, SUBMESSAGE_HEADER_SIZE, SubmessageHeader};
 use crate::layouts::{Cursor, Span, layout_at};
 use crate::refusals::Refusal;
 use crate::submessages::Submessage;
@@ -24,14 +24,20 @@ pub fn part(s: &[u8], span: Span) -> &[u8]
     &s[0..0]
 }
 
-// The submessage at the cursor.
+// The submessage at the cursor. Not by `end_at`: the layout looks at kind and code itself, and a datagram of ten took 1.4 times as long with both.
 pub fn read(s: &[u8], c: Cursor) -> Result<(Submessage, Span, Cursor), Refusal>
     ensures { result ≡ read_at s.now c.at }
 {
     let at = c.at;
-    let end = end_at(s, at)?;
-    let start = at + SUBMESSAGE_HEADER_SIZE;
-    layout_at(s, s[at], start, end - start)
+    match SubmessageHeader::parse(s, at) {
+        Ok(h) => {
+            let start = at + SUBMESSAGE_HEADER_SIZE;
+            let len = h.length as usize;
+            check_room(s, h.submessage_id, start, len)?;
+            layout_at(s, h.submessage_id, start, len)
+        }
+        Err(r) => Err(r),
+    }
 }
 
 // The submessages from `from` to the end of the datagram, counted under the header given; the first failure refuses the whole. Nothing is

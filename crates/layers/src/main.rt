@@ -83,7 +83,7 @@ impl Layers {
 fn run(from: &mut impl BufRead, to: &mut impl Write, alloc: Global) -> io::Result<()> {
     let mut layers = Layers::new(alloc)?;
     let mut line = Vec::with_capacity(alloc, LONGEST_LINE)?;
-    let mut given = Vec::new(alloc);
+    let mut given = Vec::with_capacity(alloc, LONGEST_LINE / 2)?;
     for _ in 0..u64::MAX {
         if !next_line(from, &mut line)? {
             break;

@@ -1,7 +1,7 @@
 // A line as an event, every word of it checked.
 use crate::lines::is_too_long;
 use crate::windows::{open_week, windows};
-use crate::words::{digits, number};
+use crate::words::{digits, is_space, number};
 use agent::state::Given;
 use hours::windows::WindowRow;
 use moves::proxy::BridgeAnswer;
@@ -60,13 +60,14 @@ fn minute(words: &[&[u8]]) -> Result<(u8, u16), Fault> {
     Ok((number(day)?, number(minute)?))
 }
 
-fn in_words<'a>(alloc: Global, words: &[&'a [u8]]) -> Result<Event<'a>, Fault> {
+// `words` are those of the line, or its first ones where it has more than an event without windows.
+fn in_words<'a>(alloc: Global, line: &'a [u8], words: &[&'a [u8]]) -> Result<Event<'a>, Fault> {
     Ok(match words {
         [b"setup", max, timeout] => {
             Event::SetUp(number(max)?, number(timeout)?, open_week(alloc)?)
         }
-        [b"setup", max, timeout, b"windows", more @ ..] => {
-            Event::SetUp(number(max)?, number(timeout)?, windows(alloc, more)?)
+        [b"setup", max, timeout, b"windows", ..] => {
+            Event::SetUp(number(max)?, number(timeout)?, windows(alloc, line)?)
         }
         [b"datagram", time, room, bytes, more @ ..] => {
             let time = number(time)?;
@@ -92,7 +93,10 @@ fn in_words<'a>(alloc: Global, words: &[&'a [u8]]) -> Result<Event<'a>, Fault> {
     })
 }
 
-// Reads a line. One that is empty or begins with # asks nothing.
+// One word more than an event without windows has at most.
+const WORDS: usize = 7;
+
+// Reads a line. One that is empty or begins with # asks nothing. Its words stand in an array: a line may have a million of them.
 pub fn parse<'a>(alloc: Global, line: &'a [u8]) -> Result<Option<Event<'a>>, Fault> {
     if line.is_empty() || line.starts_with(b"#") {
         return Ok(None);
@@ -100,6 +104,13 @@ pub fn parse<'a>(alloc: Global, line: &'a [u8]) -> Result<Option<Event<'a>>, Fau
     if is_too_long(line) {
         return Err(Fault::NotInFormat);
     }
-    let words: Vec<&[u8]> = line.split(|b| *b == b' ').collect(alloc)?;
-    Ok(Some(in_words(alloc, &words)?))
+    let mut words = [b"".as_slice(); WORDS];
+    let mut n = 0;
+    for word in line.split(is_space) {
+        if n < WORDS {
+            words[n] = word;
+            n += 1;
+        }
+    }
+    Ok(Some(in_words(alloc, line, &words[..n.min(WORDS)])?))
 }

@@ -2,6 +2,7 @@
 use crate::calls::Call;
 use crate::dump::dump;
 use crate::event::Event;
+use crate::lines::LONGEST_LINE;
 use crate::output::{Replies, front, lend, moved};
 use crate::print::{Hex, bad_line, refused};
 use crate::stores::Stores;
@@ -14,6 +15,9 @@ use moves::proxy::BridgeAnswer;
 use std::alloc::{AllocError, Global};
 use std::io::Write;
 use std::{io, mem};
+
+// A longest line has digits for so many bytes, so that what is decoded needs no memory later.
+const LONGEST_DATAGRAM: usize = LONGEST_LINE / 2;
 
 // What the numbers lent to a listing are filled with.
 const MARK: u16 = 999;
@@ -55,15 +59,13 @@ fn say(
     }
 }
 
-// The agent, once it is set up, with all that it is lent; and the datagram of its open call.
+// The agent, once it is set up, with all that it is lent; the bytes that came last, of a datagram or of an answer; and the datagram of its open call.
 #[derive(Drop)]
 pub struct Host {
-    alloc: Global,
     agent: Option<Agent>,
     stores: Stores,
     out: Vec<u8>,
     datagram: Vec<u8>,
-    sample: Vec<u8>,
     called: Vec<u8>,
 }
 
@@ -72,13 +74,11 @@ impl Host {
     // ACKNACKs, 16 messages of 1,024 bytes to each.
     pub fn new(alloc: Global) -> Result<Self, AllocError> {
         Ok(Host {
-            alloc,
             agent: None,
             stores: Stores::new(alloc)?,
             out: vec![in alloc; 0; 1048576]?,
-            datagram: Vec::new(alloc),
-            sample: Vec::new(alloc),
-            called: Vec::new(alloc),
+            datagram: Vec::with_capacity(alloc, LONGEST_DATAGRAM)?,
+            called: Vec::with_capacity(alloc, LONGEST_DATAGRAM)?,
         })
     }
 
@@ -97,7 +97,7 @@ impl Host {
             (Some(agent), Event::Sweep(time, room)) => self.sweep(to, agent, time, room),
             (Some(_), Event::List(id)) => self.list(to, id),
             (Some(_), Event::Open(day, minute)) => self.open(to, day, minute),
-            (Some(_), Event::Dump) => dump(to, self.alloc, &self.stores),
+            (Some(_), Event::Dump) => dump(to, &self.stores),
         }
     }
 
@@ -147,11 +147,11 @@ impl Host {
         room: u64,
         digits: &[u8],
     ) -> io::Result<()> {
-        decode(digits, &mut self.sample)?;
+        decode(digits, &mut self.datagram)?;
         let out = lend(&mut self.out, room);
         let p = self
             .stores
-            .answered(out, &self.called, &self.sample, agent, answer);
+            .answered(out, &self.called, &self.datagram, agent, answer);
         self.agent = Some(p.agent);
         say(to, out, &self.called, &self.stores.rebuilt, p)
     }

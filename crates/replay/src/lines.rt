@@ -3,7 +3,7 @@ use std::io;
 use std::io::{BufRead, Read};
 
 // A line holds a datagram of seven longest payloads. A longer line is a bad one.
-const LONGEST_LINE: usize = 1_048_576;
+pub const LONGEST_LINE: usize = 1_048_576;
 
 pub fn is_too_long(line: &[u8]) -> bool {
     LONGEST_LINE < line.len()

@@ -15,7 +15,7 @@ mod words;
 
 use event::{Fault, parse};
 use host::Host;
-use lines::next_line;
+use lines::{LONGEST_LINE, next_line};
 use print::bad_line;
 use std::alloc::{AllocError, Global};
 use std::io;
@@ -33,7 +33,7 @@ fn answer(host: &mut Host, to: &mut impl Write, alloc: Global, line: &[u8]) -> i
 // Reads and answers until the input ends. A proved loop has to end, so its turns are counted.
 fn run(from: &mut impl BufRead, to: &mut impl Write, alloc: Global) -> io::Result<()> {
     let mut host = Host::new(alloc)?;
-    let mut line = Vec::new(alloc);
+    let mut line = Vec::with_capacity(alloc, LONGEST_LINE + 1)?;
     for _ in 0..u64::MAX {
         if !next_line(from, &mut line)? {
             break;

@@ -1,7 +1,18 @@
 // What a line of the output is made of beside names and numbers. The program `layers` has the like: the two share no library of theirs (decision 81).
+ghost use Rattle.std.specs.Prelude.{◌<◌};
+
 use codec::refusals::Refusal;
 use std::io::Write;
 use std::{fmt, io};
+
+// How many bytes are spelled before they are written: byte by byte a line of a thousand takes several times as long.
+const PIECE: usize = 512;
+
+fn glyph(d: u8) -> u8
+    requires { d < 16 }
+{
+    if d < 10 { b'0' + d } else { b'a' + (d - 10) }
+}
 
 // Bytes, `-` where there are none.
 #[derive(Clone, Copy, Debug)]
@@ -12,8 +23,13 @@ impl fmt::Display for Hex<'_> {
         if self.0.is_empty() {
             return f.write_str("-");
         }
-        for b in self.0 {
-            write!(f, "{b:02x}")?;
+        let mut digits = [0; 2 * PIECE];
+        for piece in self.0.chunks(PIECE) {
+            for (pair, b) in digits.chunks_exact_mut(2).zip(piece) {
+                pair.copy_from_slice(&[glyph(*b / 16), glyph(*b % 16)]);
+            }
+            let spelled = &digits[..digits.len().min(2 * piece.len())];
+            f.write_str(str::from_utf8(spelled).map_err(|_| fmt::Error)?)?;
         }
         Ok(())
     }

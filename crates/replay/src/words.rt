@@ -28,6 +28,11 @@ where
     N::try_from(n).map_err(|_| Fault::NotInFormat)
 }
 
+// What stands between two words.
+pub fn is_space(b: &u8) -> bool {
+    *b == b' '
+}
+
 // What stands before the first such byte of a word, and what stands behind it.
 pub fn cut(word: &[u8], at: u8) -> Result<(&[u8], &[u8]), Fault> {
     match word.iter().position(|b| *b == at) {

@@ -1,32 +1,35 @@
--- `codec::reading::read` meets its contract: the refusal of the first failure, or what the layout says where there is none.
+-- `codec::reading::read` meets its contract: the header first, then the rules before the layout, then the layout.
 use mathlib.Core.Path.{◌≡◌, sym, ◌∙◌}
 use native.Mathlib.Omega.{arith}
 use Rattle.std.specs.Prelude.{Err}
-use Rattle.codec.proofs.failures.Laws.{Ended, ended, refused_end}
-use Rattle.codec.proofs.reading.read.Goals.{In_ok-end}
+use Prim.Native.Nat.{◌+◌}
+use Rattle.codec.specs.Reading.{payload_at, read_at}
+use Rattle.codec.proofs.header.Laws.{sub_header_is}
+use Rattle.codec.proofs.reading.Laws.{payload_laid}
+use Rattle.codec.proofs.reading.read.Goals.{In-Ok}
 use Rattle.codec.proofs.reading.read.Goals as goal
 
-pub returns-in_err-end : goal.returns-in_err-end
-returns-in_err-end c =
-    let passed : c.from_residual.result ≡ Err c.in_err-end.field-0.0 = grind arith in
-    passed ∙ sym (refused_end _ _ _ (sym c.end_at.ensures ∙ c.in_err-end.was)).0
-
-last : (c : In_ok-end) → Ended c.args.s.now c.args.c.at c.in_ok-end.end
-last c = ended _ _ _ (sym c.end_at.ensures ∙ c.in_ok-end.was)
-
 pub overflow_add-start : goal.overflow_add-start
-overflow_add-start c = omega (arith, (last c).within, (last c).ahead)
+overflow_add-start c = omega (arith, sub_header_is _ _ _ (sym c.parse.ensures ∙ c.in-Ok.is))
 
-pub bounds-s-at : goal.bounds-s-at
-bounds-s-at c = omega (arith, (last (goal.at.bounds-s-at c).In_ok-end).within, (last (goal.at.bounds-s-at c).In_ok-end).ahead)
+pub check_room-requires : goal.check_room-requires
+check_room-requires c = omega (arith, sub_header_is _ _ _ (sym c.parse.ensures ∙ c.in-Ok.is))
 
-pub overflow_sub-end : goal.overflow_sub-end
-overflow_sub-end c = (last (goal.at.overflow_sub-end c).In_ok-end).ahead
+-- what stands behind the header is the payload
+behind_header : (c : In-Ok) → payload_at c.args.s.now c.in-Ok.h.submessage_id (c.args.c.at + 4) c.in-Ok.h.length ≡ read_at c.args.s.now c.args.c.at
+unfolding read_at
+behind_header c = rw (sym c.parse.ensures ∙ c.in-Ok.is)
 
-pub layout_at-requires : goal.layout_at-requires
-layout_at-requires c =
-    let l = last (goal.at.layout_at-requires c).In_ok-end in
-    (omega (arith, l.within, l.ahead), l.least)
+pub returns-in_err-check_room-in-Ok : goal.returns-in_err-check_room-in-Ok
+returns-in_err-check_room-in-Ok c =
+    let passed : c.from_residual.result ≡ Err c.in_err-check_room-in-Ok.field-0.0 = grind arith in
+    passed ∙ c.in_err-check_room-in-Ok.ensures.refused ∙ behind_header (goal.at.returns-in_err-check_room-in-Ok c).In-Ok
 
-pub returns : goal.returns
-returns c = c.layout_at.ensures ∙ (last (goal.at.returns c).In_ok-end).laid
+pub returns-in_ok-check_room-in-Ok : goal.returns-in_ok-check_room-in-Ok
+returns-in_ok-check_room-in-Ok c =
+    let r = c.in_ok-check_room-in-Ok.ensures.room in
+    c.layout_at.ensures ∙ payload_laid _ _ _ _ r.0 r.1.0 r.1.1 ∙ behind_header (goal.at.returns-in_ok-check_room-in-Ok c).In-Ok
+
+pub returns-in-Err : goal.returns-in-Err
+unfolding read_at
+returns-in-Err c = rw (sym c.parse.ensures ∙ c.in-Err.is)

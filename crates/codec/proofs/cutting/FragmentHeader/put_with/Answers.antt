@@ -17,4 +17,4 @@ returns c =
     let a = c.args in
     let n = length_fragment a.self.fragment_nr a.self.total_fragments a.body.now in
     let f = put_fits a.out.now 0 (fragment_bytes a.self.fragment_nr a.self.total_fragments a.body.now) (omega arith) in
-    (rw n at f.0, c.copy_in.ensures ∙ (rw c.put_two.ensures (put_body _ _ _ _) ∙ f.1))
+    (rw n at f.0, c.copy_long.ensures ∙ (rw c.put_two.ensures (put_body _ _ _ _) ∙ f.1))

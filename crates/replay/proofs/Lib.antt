@@ -1,0 +1,2 @@
+-- What the proofs of this program have in common.
+mod Literals
