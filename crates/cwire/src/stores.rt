@@ -53,7 +53,7 @@ fn put_new(
     if store.len() < 3 {
         return Err(Refusal::OverLimit);
     }
-    // No `?`: with it the store's three numbers are read back wider than they were written, and a call takes 14.2 ns and not 6.3.
+    // No `?`: with it the store's three numbers are read back wider than they were written, and a call takes 14.2 ns and not 7.6.
     match ReassemblyBuffer::new(total, width, slots, lengths) {
         Ok(b) => {
             put_store(store, b);
